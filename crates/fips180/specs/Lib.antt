@@ -1,0 +1,5 @@
+pub mod Words
+pub mod Family
+pub mod Padding
+pub mod Hash
+pub mod Sha256
