@@ -2,13 +2,14 @@
 use Prim.Native.Nat.{ℕ, zero, suc, _<_}
 use mathlib.Core.Path.{_≡_, refl, sym, ap, subst, _∙_}
 use mathlib.Core.Bool.{Bool, true, false}
+use mathlib.Core.List.{List, [], _∷_}
 use native.Mathlib.Omega.{arith}
 use Rattle.refusal.specs.declared.Refusal.{Refusal}
 use Rattle.refusal.specs.declared.Refusal.the-variants.{ForeignHeader, BadLength, WrongBuffer, UnsoundState, OutOfRange, OutOfStep, LogFull, BadManifestHeader, StaleVersion, BadSignature, NotOffered, MalformedElement}
 use Rattle.refusal.specs.declared.Verdict.{Verdict}
 use Rattle.refusal.specs.declared.Verdict.the-variants.{Accepted, Refused}
 use Rattle.refusal.specs.Number.{refusalNumber, numberOf}
-use Rattle.refusal.specs.Rules.{_when_else_, first_then_, accepted_then_else_}
+use Rattle.refusal.specs.Rules.{_when_else_, first_then_, accepted_then_else_, Reply, reply}
 
 -- ---- numbers
 
@@ -94,6 +95,14 @@ accepted-yes x y e = rw e
 pub accepted-no {ℓ} : {A : Type ℓ} {n : ℕ} (x y : A) → 0 < n → (accepted n then x else y) ≡ y
 accepted-no {n = zero} x y h = absurd (omega arith)
 accepted-no {n = suc n} x y h = refl
+
+-- ---- replies
+
+pub reply-yes : {A : Type 0} {n : ℕ} (x : A) → n ≡ 0 → _≡_ {A = Reply A} (record { number = 0; values = x ∷ [] }) (reply n x)
+reply-yes x e = rw e
+
+pub reply-no : {A : Type 0} {n : ℕ} (x : A) → 0 < n → _≡_ {A = Reply A} (record { number = n; values = [] }) (reply n x)
+reply-no {A = A} {n = n} x h = λ i. record { number = n; values = sym (accepted-no {A = List A} {n = n} (x ∷ []) [] h) i }
 
 -- an accepting chain has no rule that applies
 pub when-accepted : (n : ℕ) (t : Bool) (m : ℕ) → 0 < n → (n when t else m) ≡ 0 → (t ≡ false) × (m ≡ 0)

@@ -1,0 +1,117 @@
+// Bytes in lent slices. Each function is total: a byte past the end reads as 0, and a run of bytes that does not fit is not
+// put. Numbers of several bytes are little-endian.
+ghost use mathlib.Core.Path.{_≡_};
+ghost use lib.ListN.{length, getD};
+ghost use Rattle.octets.specs.Octets.{numberAt, bytesOf, pasted, padded, zeros, zeroedFrom, sameBytes, allZero, replacedBy};
+
+pub fn byte_at(b: &[u8], at: usize) -> u8
+    ensures { λ r. ⌜ r ≡ getD (now (b .entry)) at 0 ⌝ }
+{
+    if at < b.len() { b[at] } else { 0 }
+}
+
+pub fn u16_at(b: &[u8], at: usize) -> u16
+    ensures { λ r. ⌜ r ≡ numberAt 2 (now (b .entry)) at ⌝ }
+{
+    if b.len() <= at {
+        return 0;
+    }
+    let low = byte_at(b, at) as u16;
+    let high = byte_at(b, at + 1) as u16;
+    low + 256 * high
+}
+
+pub fn u32_at(b: &[u8], at: usize) -> u32
+    ensures { λ r. ⌜ r ≡ numberAt 4 (now (b .entry)) at ⌝ }
+{
+    if b.len() <= at {
+        return 0;
+    }
+    let low = u16_at(b, at) as u32;
+    if b.len() - at <= 2 {
+        return low;
+    }
+    let high = u16_at(b, at + 2) as u32;
+    low + 65536 * high
+}
+
+pub fn u16_bytes(n: u16) -> [u8; 2]
+    ensures { λ r. ⌜ r ≡ bytesOf 2 n ⌝ }
+{
+    [(n % 256) as u8, (n / 256 % 256) as u8]
+}
+
+pub fn u32_bytes(n: u32) -> [u8; 4]
+    ensures { λ r. ⌜ r ≡ bytesOf 4 n ⌝ }
+{
+    let n1 = n / 256;
+    let n2 = n1 / 256;
+    let n3 = n2 / 256;
+    [
+        (n % 256) as u8,
+        (n1 % 256) as u8,
+        (n2 % 256) as u8,
+        (n3 % 256) as u8,
+    ]
+}
+
+// The bytes of src go into dst from at on, where they fit.
+pub fn put(dst: &mut [u8], at: usize, src: &[u8])
+    ensures { λ _. ⌜ now (dst .exit) ≡ pasted (now (dst .entry)) at (now (src .entry)) ⌝ }
+{
+    if dst.len() < at {
+        return;
+    }
+    if dst.len() - at < src.len() {
+        return;
+    }
+    let mut i: usize = 0;
+    while i < src.len() {
+        dst[at + i] = src[i];
+        i += 1;
+    }
+}
+
+// Every byte from index at on becomes 0.
+pub fn zero_from(dst: &mut [u8], at: usize)
+    ensures { λ _. ⌜ now (dst .exit) ≡ zeroedFrom (now (dst .entry)) at ⌝ }
+{
+    if dst.len() <= at {
+        return;
+    }
+    let mut i = at;
+    while i < dst.len() {
+        dst[i] = 0;
+        i += 1;
+    }
+}
+
+// dst becomes src and then zeros, where src fits.
+pub fn replace(dst: &mut [u8], src: &[u8])
+    ensures { λ _. ⌜ now (dst .exit) ≡ replacedBy (now (dst .entry)) (now (src .entry)) ⌝ }
+{
+    if dst.len() < src.len() {
+        return;
+    }
+    put(dst, 0, src);
+    zero_from(dst, src.len());
+}
+
+pub fn same(a: &[u8], b: &[u8]) -> bool
+    ensures { λ r. ⌜ r ≡ sameBytes (now (a .entry)) (now (b .entry)) ⌝ }
+{
+    check::same(a, b)
+}
+
+pub fn all_zero(b: &[u8]) -> bool
+    ensures { λ r. ⌜ r ≡ allZero (now (b .entry)) ⌝ }
+{
+    let mut i: usize = 0;
+    while i < b.len() {
+        if b[i] != 0 {
+            return false;
+        }
+        i += 1;
+    }
+    true
+}
