@@ -7,7 +7,7 @@ use native.Mathlib.Omega.{arith}
 use native.Mathlib.Numerals.{add-one}
 use borrow.Author.Tests.{le-leb, lt-leb, eq-eqb, eqb-true}
 use lib.Dec.{eqb, leb}
-use lib.ListN.{length, getD, take, drop, set, length-append, length-replicate, take-append-drop, drop-of-length-le}
+use lib.ListN.{length, getD, take, drop, set, length-append, length-drop, length-replicate, take-append-drop, drop-of-length-le}
 use lib.Seq.{length-take-le, take-at, take-all, drop-cons, drop-length, set-at, append-snoc}
 use Rattle.octets.specs.Octets.{Bytes, zeros, pasted, zeroedFrom, padded, replacedBy, sameBytes, allZero}
 use Rattle.refusal.proofs.Tests.{and-yes, is-no}
@@ -30,6 +30,21 @@ replaced-not d s h = rw (lt-leb _ _ h)
 
 pub length-padded : (n : ℕ) (s : List ℕ) → length s ≤ n → length (padded n s) ≡ n
 length-padded n s h = omega (arith, length-append s (zeros (n - length s)), length-zeros (n - length s))
+
+-- ---- bytes put into a buffer where they fit
+
+module _ (d : List ℕ) (i : ℕ) (s : List ℕ) (fits : i + length s ≤ length d) where
+  front : length (take i d ++ s) ≡ i + length s
+  front = omega (arith, length-append (take i d) s, length-take-le i d (omega arith))
+
+  pub length-pasted : length (pasted d i s) ≡ length d
+  length-pasted =
+      ap length (pasted-fits d i s fits)
+      ∙ omega (arith, length-append (take i d ++ s) (drop (i + length s) d), front, length-drop (i + length s) d)
+
+  pub take-pasted : take (i + length s) (pasted d i s) ≡ take i d ++ s
+  take-pasted =
+      ap (take (i + length s)) (pasted-fits d i s fits) ∙ take-at (take i d ++ s) (drop (i + length s) d) (i + length s) front
 
 -- ---- equal bytes
 
@@ -69,6 +84,12 @@ some-nonzero [] i h f = absurd (omega arith)
 some-nonzero (x ∷ xs) zero h f = is-no _ (λ e. f (eqb-true x 0 (and-yes (eqb x 0) (allZero xs) e .0)))
 some-nonzero (x ∷ xs) (suc i) h f =
     is-no _ (λ e. false≢true (sym (some-nonzero xs i (omega arith) f) ∙ and-yes (eqb x 0) (allZero xs) e .1))
+
+pub drop-zeros : (k m : ℕ) → drop k (zeros m) ≡ zeros (m - k)
+unfolding zeros
+drop-zeros zero m = let e : m ≡ m - 0 = omega arith in ap zeros e
+drop-zeros (suc k) zero = let e : 0 ≡ 0 - suc k = omega arith in ap zeros e
+drop-zeros (suc k) (suc m) = let e : m - k ≡ suc m - suc k = omega arith in drop-zeros k m ∙ ap zeros e
 
 -- the scan of a list for a byte that is not 0, from index i on
 pub zero-step : (s : List ℕ) (i : ℕ) → i < length s → allZero (drop i s) ≡ (eqb (getD s i 0) 0 && allZero (drop (i + 1) s))
@@ -134,3 +155,20 @@ pub bytes-append : (a b : List ℕ) → Bytes a → Bytes b → Bytes (a ++ b)
 bytes-append [] b p q i = q i
 bytes-append (x ∷ a) b p q zero = p zero
 bytes-append (x ∷ a) b p q (suc i) = bytes-append a b (λ k. p (suc k)) q i
+
+pub bytes-take : (n : ℕ) (l : List ℕ) → Bytes l → Bytes (take n l)
+bytes-take zero l h i = omega arith
+bytes-take (suc n) [] h i = omega arith
+bytes-take (suc n) (x ∷ xs) h zero = h zero
+bytes-take (suc n) (x ∷ xs) h (suc i) = bytes-take n xs (λ j. h (suc j)) i
+
+pub bytes-drop : (n : ℕ) (l : List ℕ) → Bytes l → Bytes (drop n l)
+bytes-drop zero l h = h
+bytes-drop (suc n) [] h = h
+bytes-drop (suc n) (x ∷ xs) h = bytes-drop n xs (λ j. h (suc j))
+
+pub bytes-zeros : (n : ℕ) → Bytes (zeros n)
+unfolding zeros
+bytes-zeros zero i = omega arith
+bytes-zeros (suc n) zero = omega arith
+bytes-zeros (suc n) (suc i) = bytes-zeros n i

@@ -7,6 +7,15 @@ pub and-yes : (a b : Bool) → (a && b) ≡ true → (a ≡ true) × (b ≡ true
 and-yes true b e = (refl, e)
 and-yes false b e = absurd (false≢true e)
 
+pub and-both : {a b : Bool} → a ≡ true → b ≡ true → (a && b) ≡ true
+and-both p q = rw (p, q)
+
+pub and-left : {a : Bool} (b : Bool) → a ≡ false → (a && b) ≡ false
+and-left b p = rw p
+
+pub and-right : {a : Bool} (b : Bool) → a ≡ true → (a && b) ≡ b
+and-right b p = rw p
+
 pub and-no : (a b : Bool) → (a && b) ≡ false → (a ≡ false) ⊎ (b ≡ false)
 and-no true b e = inr e
 and-no false b e = inl refl
@@ -21,6 +30,11 @@ or-yes false b e = inr e
 
 pub or-left : (a b : Bool) → a ≡ true → (a || b) ≡ true
 or-left a b e = rw e
+
+-- a second test that matters only where the first doesn't hold
+pub or-same : (a b c : Bool) → (a ≡ false → b ≡ c) → (a || b) ≡ (a || c)
+or-same true b c h = refl
+or-same false b c h = h refl
 
 -- a test that can't hold
 pub is-no : (b : Bool) → (b ≡ true → ⊥) → b ≡ false
