@@ -1,0 +1,8 @@
+pub mod Rules
+pub mod States
+pub mod Accepted
+pub mod Steps
+pub mod Stays
+pub mod Reading
+pub mod Claim
+pub mod Examples

@@ -1,0 +1,100 @@
+-- What stays with each call: a sound slot, its magic number, and an active id that never falls.
+use Prim.Native.Nat.{ℕ, _+_, _≤_}
+use mathlib.Core.Path.{_≡_, refl, _∙_}
+use mathlib.Core.Bool.{Bool, false, not}
+use mathlib.Core.Logic.{⊎-elim}
+use mathlib.Core.List.{List}
+use native.Mathlib.Omega.{arith}
+use lib.ListN.{length, take}
+use lib.Seq.{length-take-le}
+use lib.Dec.{eqb, ltb, leb}
+use borrow.Author.Tests.{le-ltb, eqb-true, leb-false, not-false}
+use Rattle.refusal.proofs.Tests.{and-no}
+use Rattle.octets.proofs.Buffers.{length-padded, length-pasted}
+use Rattle.manifest.specs.Slot.{bufferLength, shortest, versionId, totalOf, receivedOf, advanced}
+use Rattle.manifest.specs.Sequences.{Held, Call, prepare, update, activate, answered, after, Sound}
+use Rattle.manifest.proofs.States.{inside, inside-active, sound-parts, parts-sound, transfer-bounds, advanced-sound, advanced-received, complete}
+use Rattle.manifest.proofs.Accepted.{lent-accepted, prepare-accepted, update-accepted, activate-accepted}
+use Rattle.manifest.proofs.Steps.{does, step-alone}
+
+-- ---- a sound slot stays sound
+
+-- the payload of an accepted update fits behind the bytes received
+pub update-fits : (h : Held) (payload : List ℕ) → Sound h → answered (update payload) h ≡ 0
+    → receivedOf (h .slot .transfer) + length payload ≤ length (h .pending)
+update-fits h payload s e =
+    let k = update-accepted (h .slot) (h .pending) (h .active) payload e in
+    let n : ℕ = length payload in
+    let t = advanced-sound (h .slot .transfer) n (sound-parts (h .slot) (s .slot) .1) (k .1) in
+    omega (arith, s .pending, advanced-received (h .slot .transfer) n (k .2), transfer-bounds (advanced (h .slot .transfer) n) t)
+
+-- what an accepted activate makes active is whole, and a manifest may have its length
+pub activate-whole : (h : Held) (good : Bool) → Sound h → answered (activate good) h ≡ 0
+    → (receivedOf (h .slot .transfer) ≡ totalOf (h .slot .transfer)) × (shortest ≤ totalOf (h .slot .transfer)) × (length (take (totalOf (h .slot .transfer)) (h .pending)) ≡ totalOf (h .slot .transfer))
+activate-whole h good s e =
+    let t = sound-parts (h .slot) (s .slot) .1 in
+    let w = complete (h .slot .transfer) t (activate-accepted (h .slot) (h .pending) (h .active) good e .1) in
+    let l = inside shortest bufferLength (totalOf (h .slot .transfer)) (w .1) in
+    (w .0, l .0, length-take-le (totalOf (h .slot .transfer)) (h .pending) (omega (arith, s .pending, l)))
+
+pub accepted-sound : (c : Call) (h : Held) → Sound h → answered c h ≡ 0 → Sound (does c h)
+accepted-sound (prepare total) h s e =
+    let k = prepare-accepted (h .slot) (h .pending) (h .active) total e in
+    let none : ltb total 0 ≡ false = le-ltb total 0 (omega arith) in
+    record {
+      pending = s .pending;
+      active = s .active;
+      slot = parts-sound (does (prepare total) h .slot) (sound-parts (h .slot) (s .slot) .0) (rw (k .1, none));
+    }
+accepted-sound (update payload) h s e =
+    let k = update-accepted (h .slot) (h .pending) (h .active) payload e in
+    let p = sound-parts (h .slot) (s .slot) in
+    record {
+      pending = length-pasted (h .pending) (receivedOf (h .slot .transfer)) payload (update-fits h payload s e) ∙ s .pending;
+      active = s .active;
+      slot = parts-sound (does (update payload) h .slot) (p .0) (advanced-sound (h .slot .transfer) (length payload) (p .1) (k .1));
+    }
+accepted-sound (activate good) h s e =
+    let d = does (activate good) h in
+    let n : ℕ = totalOf (h .slot .transfer) in
+    let w = complete (h .slot .transfer) (sound-parts (h .slot) (s .slot) .1) (activate-accepted (h .slot) (h .pending) (h .active) good e .1) in
+    let l = activate-whole h good s e .2 in
+    record {
+      pending = s .pending;
+      active = length-padded bufferLength (take n (h .pending)) (omega (arith, l, inside shortest bufferLength n (w .1)));
+      slot = parts-sound (d .slot) (inside-active (d .slot .active) (w .1)) refl;
+    }
+
+pub stays : (c : Call) (h : Held) → Sound h → Sound (after c h)
+stays c h s = step-alone Sound c h s (accepted-sound c h s)
+
+-- ---- the magic number stays, and the active id never falls
+
+pub magic : (c : Call) (h : Held) → after c h .slot .magic ≡ h .slot .magic
+magic c h = step-alone (λ k. k .slot .magic ≡ h .slot .magic) c h refl (λ e. does-magic c)
+  where
+    does-magic : (c : Call) → does c h .slot .magic ≡ h .slot .magic
+    does-magic (prepare total) = refl
+    does-magic (update payload) = refl
+    does-magic (activate good) = refl
+
+-- a slot whose active id is at least that of h
+abbrev pub Forward : Held → Held → Type 0
+Forward h k = (k .slot .active .length ≡ 0 → ⊥) × (h .slot .active .id .0 ≤ k .slot .active .id .0)
+
+accepted-forward : (c : Call) (h : Held) → (h .slot .active .length ≡ 0 → ⊥) → answered c h ≡ 0 → Forward h (does c h)
+accepted-forward (prepare total) h some e = (some, omega arith)
+accepted-forward (update payload) h some e = (some, omega arith)
+accepted-forward (activate good) h some e =
+    let k = activate-accepted (h .slot) (h .pending) (h .active) good e in
+    let s = lent-accepted (h .slot) (h .pending) (h .active) (k .0) in
+    let w = activate-whole h good s e in (
+      (λ z. omega (arith, z, w .1)),
+      ⊎-elim
+          (λ (n : not (eqb (h .slot .active .length) 0) ≡ false). absurd (some (eqb-true (h .slot .active .length) 0 (not-false _ n))))
+          (λ (n : leb (versionId (h .pending)) (h .slot .active .id .0) ≡ false). omega (arith, leb-false (versionId (h .pending)) (h .slot .active .id .0) n))
+          (and-no (not (eqb (h .slot .active .length) 0)) (leb (versionId (h .pending)) (h .slot .active .id .0)) (k .2)),
+    )
+
+pub forward : (c : Call) (h : Held) → (h .slot .active .length ≡ 0 → ⊥) → Forward h (after c h)
+forward c h some = step-alone (Forward h) c h (some, omega arith) (accepted-forward c h some)
