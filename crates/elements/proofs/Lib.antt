@@ -1,0 +1,13 @@
+pub mod Tests
+pub mod Verdicts
+pub mod Filled
+pub mod HashWidths
+pub mod Items
+pub mod Heads
+pub mod Regions
+pub mod RwRegions
+pub mod Images
+pub mod Roots
+pub mod ByNumber
+pub mod RoundTrips
+pub mod Examples

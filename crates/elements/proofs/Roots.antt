@@ -1,0 +1,116 @@
+-- Root CAs: what their writer wrote, their reader reads back; what their reader accepts, their writer writes again. Over the hash type.
+use Prim.Native.Nat.{ℕ, _≤_, _+_, _*_}
+use mathlib.Core.Path.{_≡_, refl, sym, ap, _∙_}
+use mathlib.Core.Bool.{false}
+use mathlib.Core.List.{List, [], _∷_}
+use native.Mathlib.Omega.{arith}
+use borrow.Author.Tests.{ne-eqb, eqb-false, le-ltb, ltb-false}
+use lib.ListN.{length, getD, drop, length-drop}
+use Rattle.octets.specs.Octets.{Bytes}
+use Rattle.refusal.specs.Rules.{reply}
+use Rattle.refusal.proofs.Laws.{accepted-yes}
+use Rattle.elements.specs.Parts.{itemCount, hashWidth}
+use Rattle.elements.specs.RootCas.{rootsHeadLength, rootCountOf, rootsFaults, rootsNumber, rootsFields, rootsHashes, rootsFieldFaults, rootsFieldsMalformed, rootsBytes, rootsWriteNumber, rootsWritten}
+use Rattle.elements.proofs.Tests.{any-no, no-any, equal-no, no-equal}
+use Rattle.elements.proofs.Verdicts.{read-yes, read-accepted, write-yes, write-accepted}
+use Rattle.elements.proofs.HashWidths.{width-positive}
+use Rattle.elements.proofs.Items.{GoodItems, good-items, items-good, items-of, counted}
+use Rattle.elements.proofs.Heads.{four-and-rest}
+
+-- ---- fields that the writer accepts
+
+pub record RootsSound (hashType : ℕ) (hashes : List ℕ) : Type 0 where
+  pub known : hashType ≤ 2
+  pub items : GoodItems (hashWidth hashType) hashes
+
+roots-sound : (hashType : ℕ) (hashes : List ℕ) → rootsFieldsMalformed hashType hashes ≡ false → RootsSound hashType hashes
+unfolding rootsFieldsMalformed
+roots-sound t hashes e =
+    let p = any-no (rootsFieldFaults t hashes) e in
+    record { known = ltb-false 2 t (p .0); items = good-items (hashWidth t) hashes (p .1 .0) }
+
+pub roots-writes : (hashType : ℕ) (hashes buffer : List ℕ) → rootsWriteNumber hashType hashes buffer ≡ 0
+    → RootsSound hashType hashes × (length buffer ≡ rootsHeadLength + length hashes)
+roots-writes t hashes buffer e =
+    let p = write-accepted (rootsFieldsMalformed t hashes) (rootsHeadLength + length hashes) (length buffer) e in
+    (roots-sound t hashes (p .0), p .1)
+
+sound-roots : (hashType : ℕ) (hashes : List ℕ) → RootsSound hashType hashes → rootsFieldsMalformed hashType hashes ≡ false
+unfolding rootsFieldsMalformed
+sound-roots t hashes k = no-any (rootsFieldFaults t hashes) (le-ltb 2 t (k .known), (items-good (hashWidth t) hashes (k .items), tt))
+
+-- ---- an element that the reader accepts
+
+pub record RootsElement (hashType : ℕ) (b : List ℕ) : Type 0 where
+  pub known : hashType ≤ 2
+  pub long : length b ≡ rootsHeadLength + hashWidth hashType * rootCountOf b
+  pub some : rootCountOf b ≡ 0 → ⊥
+  pub zero1 : getD b 1 0 ≡ 0
+  pub zero2 : getD b 2 0 ≡ 0
+  pub zero3 : getD b 3 0 ≡ 0
+
+pub roots-element : (hashType : ℕ) (b : List ℕ) → rootsNumber hashType b ≡ 0 → RootsElement hashType b
+unfolding rootsNumber
+roots-element t b e =
+    let p = any-no (rootsFaults t b) (read-accepted _ e) in
+    record {
+      known = ltb-false 2 t (p .0);
+      long = no-equal _ _ (p .1 .0);
+      some = eqb-false (rootCountOf b) 0 (p .1 .1 .0);
+      zero1 = no-equal _ _ (p .1 .1 .1 .0);
+      zero2 = no-equal _ _ (p .1 .1 .1 .1 .0);
+      zero3 = no-equal _ _ (p .1 .1 .1 .1 .1 .0);
+    }
+
+roots-accepted : (hashType : ℕ) (b : List ℕ) → RootsElement hashType b → rootsNumber hashType b ≡ 0
+unfolding rootsNumber
+roots-accepted t b k =
+    read-yes
+    (no-any (rootsFaults t b) (
+      le-ltb 2 t (k .known),
+      (equal-no (k .long), (ne-eqb (rootCountOf b) 0 (k .some), (equal-no (k .zero1), (equal-no (k .zero2), (equal-no (k .zero3), tt))))),
+    ))
+
+-- ---- what was written is read back
+
+pub roots-back : (hashType : ℕ) (hashes buffer : List ℕ) → rootsWriteNumber hashType hashes buffer ≡ 0
+    → (reply (rootsNumber hashType (rootsWritten hashType hashes buffer)) (rootsFields (rootsWritten hashType hashes buffer))
+    ≡ reply 0 (record { count = itemCount (hashWidth hashType) hashes }))
+    × (rootsHashes hashType (rootsWritten hashType hashes buffer) ≡ hashes)
+roots-back t hashes buffer e =
+    let k = roots-writes t hashes buffer e .0 in
+    let b : List ℕ = rootsBytes t hashes in
+    let w : rootsWritten t hashes buffer ≡ b = accepted-yes b buffer e in
+    let long : length b ≡ rootsHeadLength + hashWidth t * rootCountOf b = omega (arith, k .items .whole) in
+    let yes : rootsNumber t b ≡ 0 =
+    roots-accepted t b (record { known = k .known; long = long; some = k .items .some; zero1 = refl; zero2 = refl; zero3 = refl }) in (
+      ap (λ (l : List ℕ). reply (rootsNumber t l) (rootsFields l)) w ∙ (λ i. reply (yes i) (rootsFields b)),
+      ap (rootsHashes t) w ∙ accepted-yes hashes [] yes,
+    )
+
+-- ---- what is read is written again
+
+module _ (t : ℕ) (b : List ℕ) (k : RootsElement t b) where
+  pub hashes-length : length (drop 4 b) ≡ hashWidth t * rootCountOf b
+  hashes-length = omega (arith, length-drop 4 b, k .long)
+
+  fields-again : Bytes b → RootsSound t (drop 4 b)
+  fields-again y =
+      record { known = k .known; items = items-of (hashWidth t) (rootCountOf b) (drop 4 b) (width-positive t (k .known)) hashes-length (k .some) (y 0) }
+
+  bytes-again : rootsBytes t (drop 4 b) ≡ b
+  bytes-again =
+      let count = counted (hashWidth t) (rootCountOf b) (drop 4 b) (width-positive t (k .known)) hashes-length in
+      (λ i. count i ∷ sym (k .zero1) i ∷ sym (k .zero2) i ∷ sym (k .zero3) i ∷ drop 4 b)
+      ∙ sym (four-and-rest b (omega (arith, k .long)))
+
+pub roots-again : (hashType : ℕ) (b buffer : List ℕ) → Bytes b → rootsNumber hashType b ≡ 0 → length buffer ≡ length b
+    → (rootsWriteNumber hashType (rootsHashes hashType b) buffer ≡ 0) × (rootsWritten hashType (rootsHashes hashType b) buffer ≡ b)
+roots-again t b buffer y e l =
+    let k = roots-element t b e in
+    let h : rootsHashes t b ≡ drop 4 b = accepted-yes (drop 4 b) [] e in
+    let long : length buffer ≡ rootsHeadLength + length (drop 4 b) = omega (arith, k .long, hashes-length t b k) in
+    let yes : rootsWriteNumber t (drop 4 b) buffer ≡ 0 = write-yes (sound-roots t (drop 4 b) (fields-again t b k y)) long in (
+      (λ i. rootsWriteNumber t (h i) buffer) ∙ yes,
+      (λ i. rootsWritten t (h i) buffer) ∙ accepted-yes (rootsBytes t (drop 4 b)) buffer yes ∙ bytes-again t b k,
+    )

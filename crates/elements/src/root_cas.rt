@@ -1,0 +1,96 @@
+// The root CAs of a CFM (002, RootCAs): hashes of the root certificates that are trusted. The type of the hashes is the manifest's, and the caller gives it.
+use crate::parts;
+use refusal::Verdict;
+ghost use mathlib.Core.Path.{_≡_};
+ghost use Prim.Native.Nat.{_+_};
+ghost use lib.ListN.{length};
+ghost use Rattle.refusal.specs.Number.{numberOf};
+ghost use Rattle.refusal.specs.Rules.{reply};
+ghost use Rattle.elements.specs.Parts.{readNumber, writeNumber};
+ghost use Rattle.elements.specs.RootCas.{rootsHeadLength, rootsReply, rootsNumber, rootsFields, rootsHashes, rootsHash, rootsFieldsMalformed, rootsWriteNumber, rootsWritten};
+
+// How many hashes there are; the hashes are a part of the element.
+pub struct RootCas {
+    pub count: u8,
+}
+
+pub enum RootCasRead {
+    Read(RootCas),
+    Malformed,
+}
+
+impl RootCas {
+    // The bytes before the hashes.
+    const HEAD_LEN: usize = 4;
+
+    pub fn read(hash_type: u8, element: &[u8]) -> RootCasRead
+        ensures { λ r. ⌜ rootsReply r ≡ reply (rootsNumber «hash_type» (now (element .entry))) (rootsFields (now (element .entry))) ⌝ }
+    {
+        if RootCas::malformed(hash_type, element) {
+            return RootCasRead::Malformed;
+        }
+        RootCasRead::Read(RootCas {
+            count: octets::byte_at(element, 0),
+        })
+    }
+
+    // The hashes, as a part of the element; empty where the element is malformed.
+    pub fn hashes(hash_type: u8, element: &[u8]) -> &[u8]
+        ensures { λ r. ⌜ now r ≡ rootsHashes «hash_type» (now (element .entry)) ⌝ }
+    {
+        if RootCas::malformed(hash_type, element) {
+            return &element[..0];
+        }
+        parts::bytes_from(element, RootCas::HEAD_LEN)
+    }
+
+    // Hash i, from 0; empty where the element is malformed, or has no such hash.
+    pub fn hash(hash_type: u8, element: &[u8], i: usize) -> &[u8]
+        ensures { λ r. ⌜ now r ≡ rootsHash «hash_type» (now (element .entry)) i ⌝ }
+    {
+        let hashes = RootCas::hashes(hash_type, element);
+        parts::item(hashes, parts::hash_width(hash_type), i)
+    }
+
+    pub fn write(hash_type: u8, hashes: &[u8], buffer: &mut [u8]) -> Verdict
+        ensures verdict { λ r. ⌜ numberOf r ≡ rootsWriteNumber «hash_type» (now (hashes .entry)) (now (buffer .entry)) ⌝ }
+        ensures buffer { λ _. ⌜ now (buffer .exit) ≡ rootsWritten «hash_type» (now (hashes .entry)) (now (buffer .entry)) ⌝ }
+    {
+        let verdict = RootCas::write_verdict(hash_type, hashes, buffer.len());
+        let Verdict::Accepted = verdict else {
+            return verdict;
+        };
+        let count = parts::item_count(hashes, parts::hash_width(hash_type)) as u8;
+        let head = [count, 0, 0, 0];
+        octets::put(buffer, 0, &head);
+        octets::put(buffer, RootCas::HEAD_LEN, hashes);
+        verdict
+    }
+
+    fn malformed(hash_type: u8, element: &[u8]) -> bool
+        ensures { λ r. ⌜ readNumber r ≡ rootsNumber «hash_type» (now (element .entry)) ⌝ }
+    {
+        let count = octets::byte_at(element, 0);
+        let n = count as usize;
+        let width = parts::hash_width(hash_type);
+        (2 < hash_type)
+            | (element.len() != RootCas::HEAD_LEN + width * n)
+            | (count == 0)
+            | (octets::byte_at(element, 1) != 0)
+            | (octets::byte_at(element, 2) != 0)
+            | (octets::byte_at(element, 3) != 0)
+    }
+
+    fn fields_malformed(hash_type: u8, hashes: &[u8]) -> bool
+        ensures { λ r. ⌜ r ≡ rootsFieldsMalformed «hash_type» (now (hashes .entry)) ⌝ }
+    {
+        (2 < hash_type) | parts::bad_items(hashes, parts::hash_width(hash_type))
+    }
+
+    fn write_verdict(hash_type: u8, hashes: &[u8], buffer_len: usize) -> Verdict
+        ensures { λ r. ⌜ numberOf r ≡ writeNumber (rootsFieldsMalformed «hash_type» (now (hashes .entry))) (rootsHeadLength + length (now (hashes .entry))) «buffer_len» ⌝ }
+    {
+        let malformed = RootCas::fields_malformed(hash_type, hashes);
+        parts::write_verdict(malformed, RootCas::HEAD_LEN + hashes.len(), buffer_len)
+    }
+}

@@ -1,0 +1,99 @@
+// An R/W region (002, RWRegion): a part of flash that holds R/W data, and what is done with it when an update fails authentication.
+use crate::region::Region;
+use refusal::Verdict;
+ghost use mathlib.Core.Path.{_≡_};
+ghost use Rattle.refusal.specs.Number.{numberOf};
+ghost use Rattle.refusal.specs.Rules.{reply};
+ghost use Rattle.elements.specs.Parts.{readNumber};
+ghost use Rattle.elements.specs.RwRegion.{operationNumber, operationOf, rwRegionReply, rwRegionFields, rwRegionNumber, rwRegionWriteNumber, rwRegionWritten};
+
+pub enum Operation {
+    Nothing,
+    Restore,
+    Erase,
+    // Means nothing, but is shown and written as itself.
+    Reserved,
+}
+
+pub struct RwRegion {
+    pub operation: Operation,
+    pub region: Region,
+}
+
+pub enum RwRegionRead {
+    Read(RwRegion),
+    Malformed,
+}
+
+impl Operation {
+    pub fn number(self) -> u8
+        ensures { λ r. ⌜ r ≡ operationNumber self ⌝ }
+    {
+        match self {
+            Operation::Nothing => 0,
+            Operation::Restore => 1,
+            Operation::Erase => 2,
+            Operation::Reserved => 3,
+        }
+    }
+
+    fn of_bits(bits: u8) -> Operation
+        ensures { λ r. ⌜ r ≡ operationOf bits ⌝ }
+    {
+        match bits {
+            0 => Operation::Nothing,
+            1 => Operation::Restore,
+            2 => Operation::Erase,
+            _ => Operation::Reserved,
+        }
+    }
+}
+
+impl RwRegion {
+    pub const LEN: usize = 12;
+
+    // The bytes before the region.
+    const HEAD_LEN: usize = 4;
+
+    pub fn read(element: &[u8]) -> RwRegionRead
+        ensures { λ r. ⌜ rwRegionReply r ≡ reply (rwRegionNumber (now (element .entry))) (rwRegionFields (now (element .entry))) ⌝ }
+    {
+        if RwRegion::malformed(element) {
+            return RwRegionRead::Malformed;
+        }
+        let bits = octets::byte_at(element, 0) & 3;
+        RwRegionRead::Read(RwRegion {
+            operation: Operation::of_bits(bits),
+            region: Region::at(element, RwRegion::HEAD_LEN),
+        })
+    }
+
+    pub fn write(self, buffer: &mut [u8]) -> Verdict
+        ensures verdict { λ r. ⌜ numberOf r ≡ rwRegionWriteNumber self (now (buffer .entry)) ⌝ }
+        ensures buffer { λ _. ⌜ now (buffer .exit) ≡ rwRegionWritten self (now (buffer .entry)) ⌝ }
+    {
+        let operation = self.operation;
+        let region = self.region;
+        let verdict = region.write_verdict(RwRegion::LEN, buffer.len());
+        let Verdict::Accepted = verdict else {
+            return verdict;
+        };
+        let head = [operation.number(), 0, 0, 0];
+        let bytes = region.bytes();
+        octets::put(buffer, 0, &head);
+        octets::put(buffer, RwRegion::HEAD_LEN, &bytes);
+        verdict
+    }
+
+    fn malformed(element: &[u8]) -> bool
+        ensures { λ r. ⌜ readNumber r ≡ rwRegionNumber (now (element .entry)) ⌝ }
+    {
+        let region = Region::at(element, RwRegion::HEAD_LEN);
+        (element.len() != RwRegion::LEN)
+            | (octets::byte_at(element, 0) >> 2 != 0)
+            | (octets::byte_at(element, 1) != 0)
+            | (octets::byte_at(element, 2) != 0)
+            | (octets::byte_at(element, 3) != 0)
+            | region.unsound()
+    }
+}

@@ -1,0 +1,4 @@
+pub mod Flags
+pub mod Effects
+pub mod Laws
+pub mod Examples

@@ -1,0 +1,5 @@
+-- In the order of document 01, "Message header and PCD commands".
+pub mod Header
+pub mod Command
+pub mod Laws
+pub mod Examples
