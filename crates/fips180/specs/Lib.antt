@@ -2,4 +2,5 @@ pub mod Words
 pub mod Family
 pub mod Padding
 pub mod Hash
+pub mod Groups
 pub mod Sha256

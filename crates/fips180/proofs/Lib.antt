@@ -1,0 +1,11 @@
+pub mod Lists
+pub mod Words
+pub mod Bytes
+pub mod Padding
+pub mod Blocks
+pub mod Digest
+pub mod Schedule
+pub mod Groups
+pub mod Round
+pub mod Examples
+pub mod Roots

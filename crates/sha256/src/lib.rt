@@ -1,0 +1,34 @@
+// SHA-256 (FIPS 180-4) of a slice of bytes.
+mod block;
+mod constants;
+mod message;
+mod schedule;
+mod words;
+
+use refusal::Refusal;
+use refusal::Verdict;
+ghost use mathlib.Core.Path.{_≡_};
+ghost use Rattle.refusal.specs.Number.{numberOf};
+ghost use Rattle.sha256.specs.Sha256.{sha256Number, sha256Digest};
+
+pub struct Hashed {
+    pub verdict: Verdict,
+    pub digest: [u8; 32],
+}
+
+pub fn sha256(message: &[u8]) -> Hashed
+    ensures verdict { λ r. ⌜ numberOf (r .verdict) ≡ sha256Number (now (message .entry)) ⌝ }
+    ensures digest { λ r. ⌜ r .digest ≡ sha256Digest (now (message .entry)) ⌝ }
+{
+    if message.len() >= 0x2000_0000_0000_0000 {
+        return Hashed {
+            verdict: Verdict::Refused(Refusal::BadLength),
+            digest: [0u8; 32],
+        };
+    }
+    let d = message::digest(message);
+    Hashed {
+        verdict: Verdict::Accepted,
+        digest: d,
+    }
+}

@@ -1,0 +1,123 @@
+// FIPS 180-4, 5.1, 5.2 and 6.2: the padded message, its blocks, the hash value over them, and the digest.
+use crate::block;
+use crate::constants;
+ghost use mathlib.Core.Path.{_≡_};
+ghost use Prim.Native.Nat.{_<_, _≤_, _+_, _*_, _/_, _^_};
+ghost use lib.ListN.{length, getD};
+ghost use Rattle.fips180.specs.Padding.{bigEndian, pad, «block»};
+ghost use Rattle.fips180.specs.Hash.{hashValue, hash, wordBytesOf};
+ghost use Rattle.fips180.specs.Sha256.{family32, initial256, sha256};
+
+// How many blocks the padded message has.
+fn block_count(m: &[u8]) -> usize
+    requires { ⌜ length (now m) < 2 ^ 61 ⌝ }
+    ensures { λ r. ⌜ r * 64 ≡ length (pad family32 (now (m .entry))) ⌝ }
+{
+    (m.len() + 8) / 64 + 1
+}
+
+// Byte j of the eight that say how many bits n bytes are.
+fn length_byte(n: usize, j: usize) -> u8
+    requires { ⌜ (n < 2 ^ 61) × (j < 8) ⌝ }
+    ensures { λ r. ⌜ r ≡ getD (bigEndian 8 (8 * n)) j 0 ⌝ }
+{
+    (((n * 8) >> (56 - j * 8)) & 0xff) as u8
+}
+
+// Byte i of the padded message.
+fn byte_at(m: &[u8], i: usize) -> u8
+    requires { ⌜ (length (now m) < 2 ^ 61) × (i < length (pad family32 (now m))) ⌝ }
+    ensures { λ r. ⌜ r ≡ getD (pad family32 (now (m .entry))) i 0 ⌝ }
+{
+    let n = m.len();
+    if i < n {
+        return m[i];
+    }
+    if i == n {
+        return 0x80;
+    }
+    let end = block_count(m) * 64 - 8;
+    if i < end {
+        return 0;
+    }
+    length_byte(n, i - end)
+}
+
+// Block i of the padded message, which need not lie in the message.
+fn padded_block(m: &[u8], i: usize) -> [u8; 64]
+    requires { ⌜ (length (now m) < 2 ^ 61) × ((i + 1) * 64 ≤ length (pad family32 (now m))) ⌝ }
+    ensures { λ r. ⌜ r ≡ «block» family32 (pad family32 (now (m .entry))) i ⌝ }
+{
+    let mut out = [0u8; 64];
+    let base = i * 64;
+    let mut j = 0;
+    while j < 64 {
+        out[j] = byte_at(m, base + j);
+        j += 1;
+    }
+    out
+}
+
+// The hash value after the blocks that lie in the message itself: they are read where they are.
+fn whole_blocks(h: [u32; 8], k: &[u32; 64], m: &[u8]) -> [u32; 8]
+    requires { ⌜ now k ≡ family32 .constants ⌝ }
+    ensures { λ r. ⌜ r ≡ hashValue family32 h (pad family32 (now (m .entry))) (length (now (m .entry)) / 64) ⌝ }
+{
+    let mut s = h;
+    let full = m.len() / 64;
+    let mut i = 0;
+    while i < full {
+        let a = i * 64;
+        let e = a + 64;
+        let t = block::compress(s, k, &m[a..e]);
+        s = t;
+        i += 1;
+    }
+    s
+}
+
+// The hash value of the whole message, from h: of the last blocks, one or two, copies are made.
+fn hash_value(h: [u32; 8], k: &[u32; 64], m: &[u8]) -> [u32; 8]
+    requires { ⌜ (now k ≡ family32 .constants) × (length (now m) < 2 ^ 61) ⌝ }
+    ensures { λ r. ⌜ r ≡ hash family32 h (now (m .entry)) ⌝ }
+{
+    let mut s = whole_blocks(h, k, m);
+    let mut i = m.len() / 64;
+    let n = block_count(m);
+    while i < n {
+        let b = padded_block(m, i);
+        let t = block::compress(s, k, &b);
+        s = t;
+        i += 1;
+    }
+    s
+}
+
+// Byte j of a word.
+fn byte_of(x: u32, j: usize) -> u8
+    requires { ⌜ j < 4 ⌝ }
+    ensures { λ r. ⌜ r ≡ getD (bigEndian 4 x) j 0 ⌝ }
+{
+    ((x >> (24 - j * 8)) & 0xff) as u8
+}
+
+fn bytes(s: [u32; 8]) -> [u8; 32]
+    ensures { λ r. ⌜ r ≡ wordBytesOf family32 8 s ⌝ }
+{
+    let mut out = [0u8; 32];
+    let mut i = 0;
+    while i < 32 {
+        out[i] = byte_of(s[i / 4], i % 4);
+        i += 1;
+    }
+    out
+}
+
+pub(crate) fn digest(m: &[u8]) -> [u8; 32]
+    requires { ⌜ length (now m) < 2 ^ 61 ⌝ }
+    ensures { λ r. ⌜ r ≡ sha256 (now (m .entry)) ⌝ }
+{
+    let k = constants::round_constants();
+    let h = constants::initial_hash_value();
+    bytes(hash_value(h, &k, m))
+}
