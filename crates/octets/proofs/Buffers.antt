@@ -156,6 +156,16 @@ bytes-append [] b p q i = q i
 bytes-append (x ∷ a) b p q zero = p zero
 bytes-append (x ∷ a) b p q (suc i) = bytes-append a b (λ k. p (suc k)) q i
 
+-- the same by recursion, which omega proves of a list that is written out
+abbrev pub Each : List ℕ → Type 0
+Each [] = Unit {0}
+Each (x ∷ xs) = (x < 256) × Each xs
+
+pub each-bytes : (xs : List ℕ) → Each xs → Bytes xs
+each-bytes [] p i = omega arith
+each-bytes (x ∷ xs) p zero = p .0
+each-bytes (x ∷ xs) p (suc i) = each-bytes xs (p .1) i
+
 pub bytes-take : (n : ℕ) (l : List ℕ) → Bytes l → Bytes (take n l)
 bytes-take zero l h i = omega arith
 bytes-take (suc n) [] h i = omega arith
