@@ -96,7 +96,7 @@ module _ (s : Slot) (good : Bool) (pending active response : List ℕ) where
     response = accepted-no (e .response) response h i;
   }
 
-  -- "a refused call changes nothing"
+  -- a refused command changes nothing
   pub kept : (message : List ℕ) → 0 < commandNumber s good pending active response message
       → commandEffect s good pending active response message ≡ unchanged (commandNumber s good pending active response message)
   unfolding commandEffect
