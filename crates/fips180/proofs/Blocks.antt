@@ -1,9 +1,9 @@
 -- How many blocks a padded message is, and the hash value after one more of them, for any family.
-use mathlib.Core.Path.{_≡_, refl, sym, ap, subst, _∙_}
+use Prim.Native.Nat.{ℕ, suc, _+_, _-_, _*_, _/_, _%_, _<_}
+use mathlib.Core.Path.{_≡_, sym, ap, _∙_}
 use mathlib.Core.Logic.{⊎-elim}
 use mathlib.Core.List.{List}
-use Prim.Native.Nat.{ℕ, zero, suc, _+_, _-_, _*_, _/_, _%_, _<_, _≤_}
-use native.Mathlib.Nat.{eq-or-lt-of-le, le-of-suc-le-suc, mod-lt, mod-eq-of-lt, mod-self, div-add-mod', mul-add-mod-self-right, mul-mod-left, suc-mul, mul-comm, mul-le-mul-right, lt-of-mul-lt-mul-left}
+use native.Mathlib.Nat.{eq-or-lt-of-le, mod-lt, mod-eq-of-lt, mod-self, div-add-mod', mul-add-mod-self-right, mul-mod-left, suc-mul, mul-comm, mul-le-mul-right, lt-of-mul-lt-mul-left}
 use native.Mathlib.Numerals.{add-one}
 use native.Mathlib.Omega.{arith}
 use lib.ListN.{length}

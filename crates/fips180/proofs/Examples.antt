@@ -1,9 +1,7 @@
 -- The definition tested as a definition: values of single operations, and digests that NIST publishes for SHA-256 ("Cryptographic Standards
 -- and Guidelines: Examples with Intermediate Values", and the test vectors of its validation program), each by computation.
 use mathlib.Core.Path.{_≡_, refl}
-use mathlib.Core.List.{List, [], _∷_}
-use Prim.Native.Nat.{ℕ}
-use lib.ListN.{length}
+use mathlib.Core.List.{[], _∷_}
 use Rattle.fips180.specs.Words.{add, rotr, shr, ch, maj}
 use Rattle.fips180.specs.Family.{wordBits, blockBytes, lengthBytes, bigSigma0, bigSigma1, smallSigma0, smallSigma1}
 use Rattle.fips180.specs.Padding.{bigEndian, fromBig, zeroCount, pad, block, wordAt, wordsOf}

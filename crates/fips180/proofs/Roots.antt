@@ -1,9 +1,9 @@
 -- The constants are what FIPS 180-4 says that they are (4.2.2, 5.3.3): the first 32 bits of the fractional parts of the cube roots of the first
 -- 64 primes, and of the square roots of the first eight.
+use Prim.Native.Nat.{ℕ, zero, suc, _+_, _*_, _%_, _^_}
 use mathlib.Core.Path.{_≡_, refl}
 use mathlib.Core.Bool.{Bool, true, false, not, _&&_}
 use mathlib.Core.List.{List, [], _∷_, _++_}
-use Prim.Native.Nat.{ℕ, zero, suc, _+_, _*_, _%_, _^_}
 use lib.Dec.{T, leb, ltb, eqb}
 use lib.ListN.{length, take}
 use Rattle.fips180.specs.Sha256.{constants256, initial256}

@@ -1,6 +1,10 @@
 // FIPS 180-4, 6.2.2, steps 2 to 4: the hash value after one more block.
 use crate::schedule;
-use crate::words;
+use crate::words::add;
+use crate::words::big_sigma0;
+use crate::words::big_sigma1;
+use crate::words::choose;
+use crate::words::majority;
 ghost use mathlib.Core.Path.{_≡_};
 ghost use Prim.Native.Nat.{_<_, _≤_, _+_};
 ghost use lib.ListN.{length, getD};
@@ -20,15 +24,9 @@ fn round(s: [u32; 8], k: u32, w: u32) -> [u32; 8]
     let f = s[5];
     let g = s[6];
     let h = s[7];
-    let t1 = words::add(
-        words::add(
-            words::add(words::add(h, words::big_sigma1(e)), words::choose(e, f, g)),
-            k,
-        ),
-        w,
-    );
-    let t2 = words::add(words::big_sigma0(a), words::majority(a, b, c));
-    [words::add(t1, t2), a, b, c, words::add(d, t1), e, f, g]
+    let t1 = add(add(add(add(h, big_sigma1(e)), choose(e, f, g)), k), w);
+    let t2 = add(big_sigma0(a), majority(a, b, c));
+    [add(t1, t2), a, b, c, add(d, t1), e, f, g]
 }
 
 // Round t + i, with word i of the queue.
@@ -66,7 +64,7 @@ fn sum_at(s: &[u32; 8], t: &[u32; 8], i: usize) -> u32
     requires { ⌜ i < 8 ⌝ }
     ensures { λ r. ⌜ r ≡ plus family32 (getD (now (s .entry)) i 0) (getD (now (t .entry)) i 0) ⌝ }
 {
-    words::add(s[i], t[i])
+    add(s[i], t[i])
 }
 
 fn sums(s: [u32; 8], t: [u32; 8]) -> [u32; 8]

@@ -6,7 +6,7 @@ ghost use Prim.Native.Nat.{_<_, _≤_, _+_, _*_, _/_, _^_};
 ghost use lib.ListN.{length, getD};
 ghost use Rattle.fips180.specs.Padding.{bigEndian, pad, «block»};
 ghost use Rattle.fips180.specs.Hash.{hashValue, hash, wordBytesOf};
-ghost use Rattle.fips180.specs.Sha256.{family32, initial256, sha256};
+ghost use Rattle.fips180.specs.Sha256.{family32, sha256};
 
 // How many blocks the padded message has.
 fn block_count(m: &[u8]) -> usize
@@ -21,7 +21,8 @@ fn length_byte(n: usize, j: usize) -> u8
     requires { ⌜ (n < 2 ^ 61) × (j < 8) ⌝ }
     ensures { λ r. ⌜ r ≡ getD (bigEndian 8 (8 * n)) j 0 ⌝ }
 {
-    (((n * 8) >> (56 - j * 8)) & 0xff) as u8
+    let place = 7 - j;
+    (((n * 8) >> (place * 8)) % 256) as u8
 }
 
 // Byte i of the padded message.
@@ -98,7 +99,8 @@ fn byte_of(x: u32, j: usize) -> u8
     requires { ⌜ j < 4 ⌝ }
     ensures { λ r. ⌜ r ≡ getD (bigEndian 4 x) j 0 ⌝ }
 {
-    ((x >> (24 - j * 8)) & 0xff) as u8
+    let place = 3 - j;
+    ((x >> (place * 8)) % 256) as u8
 }
 
 fn bytes(s: [u32; 8]) -> [u8; 32]

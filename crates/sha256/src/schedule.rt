@@ -1,5 +1,7 @@
 // FIPS 180-4, 6.2.2, step 1: the message schedule, as a circular queue of sixteen words.
-use crate::words;
+use crate::words::add;
+use crate::words::small_sigma0;
+use crate::words::small_sigma1;
 ghost use mathlib.Core.Path.{_≡_};
 ghost use Prim.Native.Nat.{_<_};
 ghost use lib.ListN.{length};
@@ -60,13 +62,7 @@ fn next_word(w: &[u32; 16], i: usize) -> u32
     let w2 = w[(i + 14) % 16];
     let w7 = w[(i + 9) % 16];
     let w15 = w[(i + 1) % 16];
-    words::add(
-        words::add(
-            words::add(words::small_sigma1(w2), w7),
-            words::small_sigma0(w15),
-        ),
-        w[i],
-    )
+    add(add(add(small_sigma1(w2), w7), small_sigma0(w15)), w[i])
 }
 
 // The next sixteen words. Straight-line, so that the queue's indices are constants.

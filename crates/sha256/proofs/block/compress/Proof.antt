@@ -1,48 +1,12 @@
+use Prim.Native.Nat.{ℕ}
+use mathlib.Core.Path.{refl, ap, _∙_}
+use mathlib.Core.List.{List}
+use borrow.Author.Needs.{needs}
 use Rattle.fips180.specs.Hash.{sums}
 use Rattle.fips180.specs.Sha256.{family32}
 use Rattle.fips180.proofs.Groups.{compress-groups, groups-none, group-more, queue-none, queue-more}
-use Prim.Native.Nat.{ℕ, zero, suc, _+_, _-_, _*_, _/_, _%_, _^_, _≤_, _<_}
-use mathlib.Core.Path.{_≡_, refl, sym, ap, _∙_}
-use mathlib.Core.Bool.{Bool, true, false}
-use mathlib.Core.List.{List, [], _∷_, _++_}
-use native.Mathlib.Omega.{arith}
-use borrow.Author.Needs.{needs}
-use lib.ListN.{length, getD, take, drop, set, length-set}
 use Rattle.sha256.proofs.block.compress.Statement.{statement}
 use Rattle.sha256.proofs.block.compress.Tie as tie
-use Rattle.sha256.proofs.block.compress.Reads as reads
-use Rattle.sha256.proofs.block.compress.Lts as lts
-use Rattle.sha256.proofs.block.sixteen_rounds.Reads as sixteen-rounds-reads
-use Rattle.sha256.proofs.block.sums.Reads as sums-reads
-use Rattle.sha256.proofs.schedule.advance.Reads as advance-reads
-use Rattle.sha256.proofs.schedule.load.Reads as load-reads
-
-load-requires : tie.Need-load-requires
-load-requires c κs = search needs
-
-sixteen-rounds-requires : tie.Need-sixteen-rounds-requires
-sixteen-rounds-requires c κs = search needs
-
-advance-requires : tie.Need-advance-requires
-advance-requires c κs = search needs
-
-sixteen-rounds-requires-2 : tie.Need-sixteen-rounds-requires-2
-sixteen-rounds-requires-2 c κs = search needs
-
-advance-requires-2 : tie.Need-advance-requires-2
-advance-requires-2 c κs = search needs
-
-sixteen-rounds-requires-3 : tie.Need-sixteen-rounds-requires-3
-sixteen-rounds-requires-3 c κs = search needs
-
-advance-requires-3 : tie.Need-advance-requires-3
-advance-requires-3 c κs = search needs
-
-sixteen-rounds-requires-4 : tie.Need-sixteen-rounds-requires-4
-sixteen-rounds-requires-4 c κs = search needs
-
-sums-requires : tie.Need-sums-requires
-sums-requires c κs = search needs
 
 returns : tie.Need-returns
 unfolding family32
@@ -63,14 +27,4 @@ returns c =
 pub compress-spec : {M : Type 1} → statement M
 compress-spec =
     tie.close
-    (tie.spec
-    load-requires
-    sixteen-rounds-requires
-    advance-requires
-    sixteen-rounds-requires-2
-    advance-requires-2
-    sixteen-rounds-requires-3
-    advance-requires-3
-    sixteen-rounds-requires-4
-    sums-requires
-    returns)
+    (tie.spec (λ c κs. search needs) (λ c κs. search needs) (λ c κs. search needs) (λ c κs. search needs) (λ c κs. search needs) (λ c κs. search needs) (λ c κs. search needs) (λ c κs. search needs) (λ c κs. search needs) returns)

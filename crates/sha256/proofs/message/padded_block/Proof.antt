@@ -1,22 +1,17 @@
-use Rattle.fips180.proofs.Blocks.{block-count32}
-use lib.ListN.{length-drop}
+use Prim.Native.Nat.{ℕ, _-_, _*_, _≤_, _<_}
+use mathlib.Core.Path.{_≡_, sym, ap, _∙_}
+use mathlib.Core.List.{List, [], _∷_, _++_}
+use native.Mathlib.Omega.{arith}
+use lib.ListN.{length-drop, length, take, drop, length-set}
 use lib.Seq.{take-suc, getD-drop, take-all}
+use borrow.Author.Needs.{needs}
 use Rattle.fips180.specs.Padding.{pad, block}
 use Rattle.fips180.specs.Family.{blockBytes}
 use Rattle.fips180.specs.Sha256.{family32}
+use Rattle.fips180.proofs.Blocks.{block-count32}
 use Rattle.fips180.proofs.Lists.{store-next}
-use Prim.Native.Nat.{ℕ, zero, suc, _+_, _-_, _*_, _/_, _%_, _^_, _≤_, _<_}
-use mathlib.Core.Path.{_≡_, refl, sym, ap, _∙_}
-use mathlib.Core.Bool.{Bool, true, false}
-use mathlib.Core.List.{List, [], _∷_, _++_}
-use native.Mathlib.Omega.{arith}
-use borrow.Author.Needs.{needs}
-use lib.ListN.{length, getD, take, drop, set, length-set}
 use Rattle.sha256.proofs.message.padded_block.Statement.{statement}
 use Rattle.sha256.proofs.message.padded_block.Tie as tie
-use Rattle.sha256.proofs.message.padded_block.Reads as reads
-use Rattle.sha256.proofs.message.padded_block.Lts as lts
-use Rattle.sha256.proofs.message.byte_at.Reads as byte-at-reads
 
 abbrev Inv-loop : tie.InvT-loop
 Inv-loop m i out₀ base j₀ out j = (j ≤ 64) × ((length out ≡ 64) × (take j out ≡ take j (drop (i * 64) (pad family32 m))))
@@ -27,23 +22,8 @@ abbrev μ-loop : tie.MeasureT-loop
 mul-base : tie.Need-mul-base Inv-loop μ-loop
 mul-base c = omega (arith, block-count32 (c .before .args .m .now))
 
-loop-holds : tie.Need-loop-holds Inv-loop μ-loop
-loop-holds c = search needs
-
 add-byte-at : tie.Need-add-byte-at Inv-loop μ-loop
 add-byte-at c = omega (arith, block-count32 (c .before .before .before .args .m .now))
-
-byte-at-requires : tie.Need-byte-at-requires Inv-loop μ-loop
-byte-at-requires c κs = search needs
-
-array-write-out : tie.Need-array-write-out Inv-loop μ-loop
-array-write-out c = search needs
-
-add-j : tie.Need-add-j Inv-loop μ-loop
-add-j c = search needs
-
-loop-less : tie.Need-loop-less Inv-loop μ-loop
-loop-less c = search needs
 
 loop-again : tie.Need-loop-again Inv-loop μ-loop
 loop-again c =
@@ -74,15 +54,4 @@ returns c =
 pub padded-block-spec : {M : Type 1} → statement M
 padded-block-spec =
     tie.close
-    (tie.spec
-    Inv-loop
-    μ-loop
-    mul-base
-    loop-holds
-    add-byte-at
-    byte-at-requires
-    array-write-out
-    add-j
-    loop-less
-    loop-again
-    returns)
+    (tie.spec Inv-loop μ-loop mul-base (λ c. search needs) add-byte-at (λ c κs. search needs) (λ c. search needs) (λ c. search needs) (λ c. search needs) loop-again returns)

@@ -1,154 +1,48 @@
-use Rattle.fips180.proofs.Groups.{advanced-none}
-use Rattle.fips180.specs.Groups.{advanced}
-use Rattle.fips180.specs.Sha256.{family32}
-use Rattle.fips180.proofs.Groups.{advanced-more}
-use Prim.Native.Nat.{ℕ, zero, suc, _+_, _-_, _*_, _/_, _%_, _^_, _≤_, _<_}
-use mathlib.Core.Path.{_≡_, refl, sym, ap, _∙_}
-use mathlib.Core.Bool.{Bool, true, false}
-use mathlib.Core.List.{List, [], _∷_, _++_}
-use native.Mathlib.Omega.{arith}
+use Prim.Native.Nat.{ℕ}
+use mathlib.Core.List.{List}
 use borrow.Author.Needs.{needs}
-use lib.ListN.{length, getD, take, drop, set, length-set}
+use Rattle.fips180.specs.Sha256.{family32}
+use Rattle.fips180.proofs.Groups.{advanced-none, advanced-more}
 use Rattle.sha256.proofs.schedule.advance.Statement.{statement}
 use Rattle.sha256.proofs.schedule.advance.Tie as tie
-use Rattle.sha256.proofs.schedule.advance.Reads as reads
-use Rattle.sha256.proofs.schedule.advance.Lts as lts
-use Rattle.sha256.proofs.schedule.next_word.Reads as next-word-reads
-
-next-word-requires : tie.Need-next-word-requires
-next-word-requires c κs = search needs
-
-element-write-w : tie.Need-element-write-w
-element-write-w c = search needs
-
-next-word-requires-2 : tie.Need-next-word-requires-2
-next-word-requires-2 c κs = search needs
-
-element-write-w-2 : tie.Need-element-write-w-2
-element-write-w-2 c = search needs
-
-next-word-requires-3 : tie.Need-next-word-requires-3
-next-word-requires-3 c κs = search needs
-
-element-write-w-3 : tie.Need-element-write-w-3
-element-write-w-3 c = search needs
-
-next-word-requires-4 : tie.Need-next-word-requires-4
-next-word-requires-4 c κs = search needs
-
-element-write-w-4 : tie.Need-element-write-w-4
-element-write-w-4 c = search needs
-
-next-word-requires-5 : tie.Need-next-word-requires-5
-next-word-requires-5 c κs = search needs
-
-element-write-w-5 : tie.Need-element-write-w-5
-element-write-w-5 c = search needs
-
-next-word-requires-6 : tie.Need-next-word-requires-6
-next-word-requires-6 c κs = search needs
-
-element-write-w-6 : tie.Need-element-write-w-6
-element-write-w-6 c = search needs
-
-next-word-requires-7 : tie.Need-next-word-requires-7
-next-word-requires-7 c κs = search needs
-
-element-write-w-7 : tie.Need-element-write-w-7
-element-write-w-7 c = search needs
-
-next-word-requires-8 : tie.Need-next-word-requires-8
-next-word-requires-8 c κs = search needs
-
-element-write-w-8 : tie.Need-element-write-w-8
-element-write-w-8 c = search needs
-
-next-word-requires-9 : tie.Need-next-word-requires-9
-next-word-requires-9 c κs = search needs
-
-element-write-w-9 : tie.Need-element-write-w-9
-element-write-w-9 c = search needs
-
-next-word-requires-10 : tie.Need-next-word-requires-10
-next-word-requires-10 c κs = search needs
-
-element-write-w-10 : tie.Need-element-write-w-10
-element-write-w-10 c = search needs
-
-next-word-requires-11 : tie.Need-next-word-requires-11
-next-word-requires-11 c κs = search needs
-
-element-write-w-11 : tie.Need-element-write-w-11
-element-write-w-11 c = search needs
-
-next-word-requires-12 : tie.Need-next-word-requires-12
-next-word-requires-12 c κs = search needs
-
-element-write-w-12 : tie.Need-element-write-w-12
-element-write-w-12 c = search needs
-
-next-word-requires-13 : tie.Need-next-word-requires-13
-next-word-requires-13 c κs = search needs
-
-element-write-w-13 : tie.Need-element-write-w-13
-element-write-w-13 c = search needs
-
-next-word-requires-14 : tie.Need-next-word-requires-14
-next-word-requires-14 c κs = search needs
-
-element-write-w-14 : tie.Need-element-write-w-14
-element-write-w-14 c = search needs
-
-next-word-requires-15 : tie.Need-next-word-requires-15
-next-word-requires-15 c κs = search needs
-
-element-write-w-15 : tie.Need-element-write-w-15
-element-write-w-15 c = search needs
-
-next-word-requires-16 : tie.Need-next-word-requires-16
-next-word-requires-16 c κs = search needs
-
-element-write-w-16 : tie.Need-element-write-w-16
-element-write-w-16 c = search needs
 
 returns : tie.Need-returns
 returns c =
-    advanced-more family32 _ 15 (c .next-word16 .ensures) (advanced-more family32 _ 14 (c .before .before .next-word15 .ensures) (advanced-more family32 _ 13 (c .before .before .before .before .next-word14 .ensures) (advanced-more family32 _ 12 (c .before .before .before .before .before .before .next-word13 .ensures) (advanced-more family32 _ 11 (c .before .before .before .before .before .before .before .before .next-word12 .ensures) (advanced-more family32 _ 10 (c .before .before .before .before .before .before .before .before .before .before .next-word11 .ensures) (advanced-more family32 _ 9 (c .before .before .before .before .before .before .before .before .before .before .before .before .next-word10 .ensures) (advanced-more family32 _ 8 (c .before .before .before .before .before .before .before .before .before .before .before .before .before .before .next-word9 .ensures) (advanced-more family32 _ 7 (c .before .before .before .before .before .before .before .before .before .before .before .before .before .before .before .before .next-word8 .ensures) (advanced-more family32 _ 6 (c .before .before .before .before .before .before .before .before .before .before .before .before .before .before .before .before .before .before .next-word7 .ensures) (advanced-more family32 _ 5 (c .before .before .before .before .before .before .before .before .before .before .before .before .before .before .before .before .before .before .before .before .next-word6 .ensures) (advanced-more family32 _ 4 (c .before .before .before .before .before .before .before .before .before .before .before .before .before .before .before .before .before .before .before .before .before .before .next-word5 .ensures) (advanced-more family32 _ 3 (c .before .before .before .before .before .before .before .before .before .before .before .before .before .before .before .before .before .before .before .before .before .before .before .before .next-word4 .ensures) (advanced-more family32 _ 2 (c .before .before .before .before .before .before .before .before .before .before .before .before .before .before .before .before .before .before .before .before .before .before .before .before .before .before .next-word3 .ensures) (advanced-more family32 _ 1 (c .before .before .before .before .before .before .before .before .before .before .before .before .before .before .before .before .before .before .before .before .before .before .before .before .before .before .before .before .next-word2 .ensures) (advanced-more family32 _ 0 (c .before .before .before .before .before .before .before .before .before .before .before .before .before .before .before .before .before .before .before .before .before .before .before .before .before .before .before .before .before .before .next-word .ensures) (advanced-none family32 _))))))))))))))))
+    let c15 = c .before .before in
+    let c14 = c15 .before .before in
+    let c13 = c14 .before .before in
+    let c12 = c13 .before .before in
+    let c11 = c12 .before .before in
+    let c10 = c11 .before .before in
+    let c9 = c10 .before .before in
+    let c8 = c9 .before .before in
+    let c7 = c8 .before .before in
+    let c6 = c7 .before .before in
+    let c5 = c6 .before .before in
+    let c4 = c5 .before .before in
+    let c3 = c4 .before .before in
+    let c2 = c3 .before .before in
+    let c1 = c2 .before .before in
+    let w : List ℕ = c1 .before .before .args .w .now in
+    let a0 = advanced-none family32 w in
+    let a1 = advanced-more family32 w 0 (c1 .next-word .ensures) a0 in
+    let a2 = advanced-more family32 w 1 (c2 .next-word2 .ensures) a1 in
+    let a3 = advanced-more family32 w 2 (c3 .next-word3 .ensures) a2 in
+    let a4 = advanced-more family32 w 3 (c4 .next-word4 .ensures) a3 in
+    let a5 = advanced-more family32 w 4 (c5 .next-word5 .ensures) a4 in
+    let a6 = advanced-more family32 w 5 (c6 .next-word6 .ensures) a5 in
+    let a7 = advanced-more family32 w 6 (c7 .next-word7 .ensures) a6 in
+    let a8 = advanced-more family32 w 7 (c8 .next-word8 .ensures) a7 in
+    let a9 = advanced-more family32 w 8 (c9 .next-word9 .ensures) a8 in
+    let a10 = advanced-more family32 w 9 (c10 .next-word10 .ensures) a9 in
+    let a11 = advanced-more family32 w 10 (c11 .next-word11 .ensures) a10 in
+    let a12 = advanced-more family32 w 11 (c12 .next-word12 .ensures) a11 in
+    let a13 = advanced-more family32 w 12 (c13 .next-word13 .ensures) a12 in
+    let a14 = advanced-more family32 w 13 (c14 .next-word14 .ensures) a13 in
+    let a15 = advanced-more family32 w 14 (c15 .next-word15 .ensures) a14 in
+    advanced-more family32 w 15 (c .next-word16 .ensures) a15
 
 pub advance-spec : {M : Type 1} → statement M
 advance-spec =
     tie.close
-    (tie.spec
-    next-word-requires
-    element-write-w
-    next-word-requires-2
-    element-write-w-2
-    next-word-requires-3
-    element-write-w-3
-    next-word-requires-4
-    element-write-w-4
-    next-word-requires-5
-    element-write-w-5
-    next-word-requires-6
-    element-write-w-6
-    next-word-requires-7
-    element-write-w-7
-    next-word-requires-8
-    element-write-w-8
-    next-word-requires-9
-    element-write-w-9
-    next-word-requires-10
-    element-write-w-10
-    next-word-requires-11
-    element-write-w-11
-    next-word-requires-12
-    element-write-w-12
-    next-word-requires-13
-    element-write-w-13
-    next-word-requires-14
-    element-write-w-14
-    next-word-requires-15
-    element-write-w-15
-    next-word-requires-16
-    element-write-w-16
-    returns)
+    (tie.spec (λ c κs. search needs) (λ c. search needs) (λ c κs. search needs) (λ c. search needs) (λ c κs. search needs) (λ c. search needs) (λ c κs. search needs) (λ c. search needs) (λ c κs. search needs) (λ c. search needs) (λ c κs. search needs) (λ c. search needs) (λ c κs. search needs) (λ c. search needs) (λ c κs. search needs) (λ c. search needs) (λ c κs. search needs) (λ c. search needs) (λ c κs. search needs) (λ c. search needs) (λ c κs. search needs) (λ c. search needs) (λ c κs. search needs) (λ c. search needs) (λ c κs. search needs) (λ c. search needs) (λ c κs. search needs) (λ c. search needs) (λ c κs. search needs) (λ c. search needs) (λ c κs. search needs) (λ c. search needs) returns)

@@ -1,0 +1,23 @@
+// SHA-256.
+use refusal::Verdict;
+use sha256::sha256;
+ghost use mathlib.Core.Path.{_≡_};
+ghost use Rattle.refusal.specs.Rules.{accepted_then_else_};
+ghost use Rattle.sha256.specs.Sha256.{sha256Number, sha256Digest};
+
+#[no_mangle]
+pub extern "C" fn cerberus_sha256(message: &[u8], digest: &mut [u8; 32]) -> u8
+    ensures number { λ r. ⌜ r ≡ sha256Number (now (message .entry)) ⌝ }
+    ensures digest { λ _. ⌜ now (digest .exit) ≡ (accepted sha256Number (now (message .entry)) then sha256Digest (now (message .entry)) else now (digest .entry)) ⌝ }
+{
+    let hashed = sha256(message);
+    let verdict = hashed.verdict;
+    match verdict {
+        Verdict::Refused(why) => why.number(),
+        Verdict::Accepted => {
+            let bytes = hashed.digest;
+            *digest = bytes;
+            0
+        }
+    }
+}

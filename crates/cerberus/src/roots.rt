@@ -1,0 +1,65 @@
+// Root CAs. The hash type is the caller's.
+use elements::root_cas::RootCas;
+use elements::root_cas::RootCasRead;
+use refusal::Refusal;
+ghost use mathlib.Core.Path.{_≡_};
+ghost use Rattle.refusal.specs.Rules.{accepted_then_else_};
+ghost use Rattle.elements.specs.Parts.{hashWidth};
+ghost use Rattle.elements.specs.RootCas.{rootCountOf, rootsNumber, rootsWriteNumber, rootsWritten};
+ghost use Rattle.cerberus.specs.Calls.{rootsHashNumber, rootsHashOffset};
+
+// Where the first hash begins in an element.
+const HASHES: usize = 4;
+
+#[no_mangle]
+pub extern "C" fn cerberus_root_cas_read(
+    hash_type: u8,
+    element: &[u8],
+    count: &mut u8,
+    hash_len: &mut usize,
+) -> u8
+    ensures number { λ r. ⌜ r ≡ rootsNumber «hash_type» (now (element .entry)) ⌝ }
+    ensures count { λ _. ⌜ now (count .exit) ≡ (accepted rootsNumber «hash_type» (now (element .entry)) then rootCountOf (now (element .entry)) else now (count .entry)) ⌝ }
+    ensures width { λ _. ⌜ now («hash_len» .exit) ≡ (accepted rootsNumber «hash_type» (now (element .entry)) then hashWidth «hash_type» else now («hash_len» .entry)) ⌝ }
+{
+    let read = RootCas::read(hash_type, element);
+    match read {
+        RootCasRead::Malformed => Refusal::MalformedElement.number(),
+        RootCasRead::Read(roots) => {
+            let hash = RootCas::hash(hash_type, element, 0);
+            *count = roots.count;
+            *hash_len = hash.len();
+            0
+        }
+    }
+}
+
+#[no_mangle]
+pub extern "C" fn cerberus_root_cas_hash(
+    hash_type: u8,
+    element: &[u8],
+    index: usize,
+    offset: &mut usize,
+    hash_len: &mut usize,
+) -> u8
+    ensures number { λ r. ⌜ r ≡ rootsHashNumber «hash_type» (now (element .entry)) index ⌝ }
+    ensures offset { λ _. ⌜ now (offset .exit) ≡ (accepted rootsHashNumber «hash_type» (now (element .entry)) index then rootsHashOffset «hash_type» index else now (offset .entry)) ⌝ }
+    ensures width { λ _. ⌜ now («hash_len» .exit) ≡ (accepted rootsHashNumber «hash_type» (now (element .entry)) index then hashWidth «hash_type» else now («hash_len» .entry)) ⌝ }
+{
+    let hash = RootCas::hash(hash_type, element, index);
+    let width = hash.len();
+    if width == 0 {
+        return Refusal::MalformedElement.number();
+    }
+    *offset = HASHES + width * index;
+    *hash_len = width;
+    0
+}
+
+#[no_mangle]
+pub extern "C" fn cerberus_root_cas_write(hash_type: u8, hashes: &[u8], buffer: &mut [u8]) -> u8
+    ensures number { λ r. ⌜ r ≡ rootsWriteNumber «hash_type» (now (hashes .entry)) (now (buffer .entry)) ⌝ }
+    ensures buffer { λ _. ⌜ now (buffer .exit) ≡ rootsWritten «hash_type» (now (hashes .entry)) (now (buffer .entry)) ⌝ }
+{
+    RootCas::write(hash_type, hashes, buffer).number()
+}

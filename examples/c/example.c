@@ -1,0 +1,150 @@
+/* The controller calls from C: a measurement log with three events, and a manifest that comes in
+ * by Cerberus messages and is then asked for its version id. The status is 1 if a call answers
+ * something that it shouldn't. */
+#include "cerberus.h"
+
+#include <stdio.h>
+#include <stdlib.h>
+#include <string.h>
+
+static void print_answer(FILE *to, uint8_t answer) {
+    uint8_t text[80];
+    size_t text_len = 0;
+    if (answer == CERBERUS_ACCEPTED)
+        fprintf(to, "accepted");
+    else if (cerberus_meaning(answer, text, sizeof text, &text_len) == CERBERUS_ACCEPTED)
+        fprintf(to, "refused %u (%.*s)", answer, (int)text_len, (const char *)text);
+    else
+        fprintf(to, "%u, which is no refusal number", answer);
+}
+
+/* Stops unless a call answered what it should. */
+static void expect(uint8_t answer, uint8_t right, const char *step) {
+    if (answer == right)
+        return;
+    fprintf(stderr, "%s: ", step);
+    print_answer(stderr, answer);
+    fprintf(stderr, ", not %u\n", right);
+    exit(1);
+}
+
+static void print_bytes(const uint8_t *bytes, size_t len) {
+    for (size_t i = 0; i < len; i++)
+        printf("%02x", bytes[i]);
+    printf("\n");
+}
+
+/* ---- the measurement log */
+
+static uint8_t log_buffer[CERBERUS_LOG_BUFFER_LEN];
+
+static void record(size_t *count, uint8_t pmr, uint32_t event_type, const char *firmware) {
+    uint8_t digest[32];
+    uint8_t answer = cerberus_sha256((const uint8_t *)firmware, strlen(firmware), digest);
+    expect(answer, CERBERUS_ACCEPTED, "hash");
+    answer = cerberus_log_record(count, pmr, event_type, digest, log_buffer, sizeof log_buffer);
+    expect(answer, CERBERUS_ACCEPTED, "record");
+    printf("  recorded \"%s\" in PMR%u, event type %u: %zu entries\n", firmware, pmr, event_type, *count);
+}
+
+static void show_registers(size_t count) {
+    for (uint8_t pmr = 0; pmr < 5; pmr++) {
+        uint8_t value[32];
+        uint8_t answer = cerberus_log_register(count, pmr, log_buffer, sizeof log_buffer, value);
+        expect(answer, CERBERUS_ACCEPTED, "register");
+        printf("  PMR%u ", pmr);
+        print_bytes(value, sizeof value);
+    }
+}
+
+/* The text of a log, replayed into another buffer, gives the same log. */
+static void replay(size_t count) {
+    static uint8_t other[CERBERUS_LOG_BUFFER_LEN];
+    size_t text_len, other_count;
+    expect(cerberus_log_read_out(count, log_buffer, sizeof log_buffer, &text_len), CERBERUS_ACCEPTED, "read-out");
+    expect(cerberus_log_replay(&other_count, log_buffer, text_len, other, sizeof other), CERBERUS_ACCEPTED, "replay");
+    printf("  the log's text has %zu bytes; replayed, %zu entries\n", text_len, other_count);
+    if (other_count != count || memcmp(other, log_buffer, sizeof other) != 0) {
+        fprintf(stderr, "the replayed log differs\n");
+        exit(1);
+    }
+}
+
+static void measure(void) {
+    size_t count;
+    printf("measurement log\n");
+    expect(cerberus_log_reset(&count, log_buffer, sizeof log_buffer), CERBERUS_ACCEPTED, "reset");
+    printf("  reset: %zu entries\n", count);
+    record(&count, 0, 8, "boot loader");
+    record(&count, 0, 1, "controller firmware");
+    record(&count, 3, 10, "frame-memory firmware");
+    show_registers(count);
+    replay(count);
+}
+
+/* ---- the manifest slot */
+
+enum { MAGIC = 0x1029, HEADER_LEN = 12, SIGNATURE_LEN = 16, MANIFEST_LEN = 48, FIRST_PIECE = 20 };
+
+static uint8_t pending[CERBERUS_SLOT_BUFFER_LEN], active[CERBERUS_SLOT_BUFFER_LEN];
+
+/* A manifest with version id 0x01020304; its body and signature are filler. */
+static void make_manifest(uint8_t manifest[MANIFEST_LEN]) {
+    static const uint8_t header[HEADER_LEN] = {
+        MANIFEST_LEN, 0, MAGIC & 0xff, MAGIC >> 8, 0x04, 0x03, 0x02, 0x01, SIGNATURE_LEN, 0, 0, 0,
+    };
+    memset(manifest, 0x5a, MANIFEST_LEN);
+    memcpy(manifest, header, sizeof header);
+}
+
+/* Has one message carried out and prints the response, if there is one. */
+static void command(cerberus_slot *slot, const char *name, uint8_t code, const uint8_t *body, size_t body_len,
+                    uint8_t right) {
+    uint8_t message[64] = {0x7e, 0x14, 0x14, 0x00, code}, response[10];
+    size_t written = 0;
+    if (body_len > 0)
+        memcpy(message + 5, body, body_len);
+    /* The board judged the manifest's signature to be good; only Activate PCD asks for it. */
+    uint8_t answer = cerberus_command(slot, 1, message, 5 + body_len, pending, sizeof pending, active, sizeof active,
+                                      response, sizeof response, &written);
+    expect(answer, right, name);
+    printf("  %-13s ", name);
+    print_answer(stdout, answer);
+    if (answer == CERBERUS_ACCEPTED && written > 0) {
+        printf(", response ");
+        print_bytes(response, written);
+    } else if (slot->receiving) {
+        printf(", received %llu of %llu bytes\n", (unsigned long long)slot->received, (unsigned long long)slot->total);
+    } else {
+        printf(", no transfer under way\n");
+    }
+}
+
+static void transfer(void) {
+    cerberus_slot slot;
+    uint8_t manifest[MANIFEST_LEN];
+    static const uint8_t total[4] = {MANIFEST_LEN, 0, 0, 0};
+    printf("manifest slot\n");
+    make_manifest(manifest);
+    expect(cerberus_slot_open(&slot, MAGIC, pending, sizeof pending, active, sizeof active), CERBERUS_ACCEPTED, "open");
+    printf("  opened with magic 0x%04llx\n", (unsigned long long)slot.magic);
+    command(&slot, "Get PCD Id", 0x62, NULL, 0, CERBERUS_ACCEPTED);
+    command(&slot, "Prepare PCD", 0x63, total, sizeof total, CERBERUS_ACCEPTED);
+    command(&slot, "Update PCD", 0x64, manifest, FIRST_PIECE, CERBERUS_ACCEPTED);
+    command(&slot, "Activate PCD", 0x65, NULL, 0, CERBERUS_OUT_OF_STEP);
+    command(&slot, "Update PCD", 0x64, manifest + FIRST_PIECE, MANIFEST_LEN - FIRST_PIECE, CERBERUS_ACCEPTED);
+    command(&slot, "Activate PCD", 0x65, NULL, 0, CERBERUS_ACCEPTED);
+    command(&slot, "Get PCD Id", 0x62, NULL, 0, CERBERUS_ACCEPTED);
+    if (slot.active_id != 0x01020304 || slot.active_length != MANIFEST_LEN || memcmp(active, manifest, MANIFEST_LEN) != 0) {
+        fprintf(stderr, "the active manifest isn't the one that was sent\n");
+        exit(1);
+    }
+    printf("  active: %llu bytes, version id 0x%08llx\n", (unsigned long long)slot.active_length,
+           (unsigned long long)slot.active_id);
+}
+
+int main(void) {
+    measure();
+    transfer();
+    return 0;
+}

@@ -1,0 +1,183 @@
+/* The controller calls of a Project Cerberus root of trust, for C.
+ *
+ * Each call takes any numbers, any bytes and any lengths, ends, and touches no
+ * memory but what it is lent. It answers 0 where it is accepted, or one refusal
+ * number; a refused call changes nothing that it was lent, neither states nor
+ * buffers nor answers. "Refuses" below lists a call's numbers in the order in
+ * which they are asked: the first that applies is given. Numbers of several
+ * bytes in messages, logs and elements are little-endian.
+ *
+ * A pointer that goes with a length may be anything but NULL where the length
+ * is 0. Buffers that one call writes must not overlap any other that it is lent.
+ */
+#ifndef CERBERUS_H
+#define CERBERUS_H
+
+#include <stddef.h>
+#include <stdint.h>
+
+#ifdef __cplusplus
+extern "C" {
+#endif
+
+enum {
+    CERBERUS_ACCEPTED = 0,
+    CERBERUS_FOREIGN_HEADER = 1,      /* the header is short or isn't ours */
+    CERBERUS_BAD_LENGTH = 2,          /* the body, payload, log text or message to hash has a length that isn't permitted */
+    CERBERUS_WRONG_BUFFER = 3,        /* a lent buffer has the wrong length */
+    CERBERUS_UNSOUND_STATE = 4,       /* a state or log outside the rules of its section */
+    CERBERUS_OUT_OF_RANGE = 5,        /* a number out of its range */
+    CERBERUS_OUT_OF_STEP = 6,         /* out of step */
+    CERBERUS_LOG_FULL = 7,            /* log full */
+    CERBERUS_BAD_MANIFEST_HEADER = 8, /* manifest header breaks its rules */
+    CERBERUS_STALE_VERSION = 9,       /* version id doesn't go forward */
+    CERBERUS_BAD_SIGNATURE = 10,      /* the signature was judged bad */
+    CERBERUS_NOT_OFFERED = 11,        /* known, but not offered */
+    CERBERUS_MALFORMED_ELEMENT = 12   /* malformed element */
+};
+
+/* ---- the refusals' meaning */
+
+/* Puts the meaning of a refusal number, in ASCII, to the front of text and its
+ * length into *meaning_len; other bytes of text stay.
+ * Refuses: 3 text has under 80 bytes; 5 number is not 1 to 12. */
+uint8_t cerberus_meaning(uint8_t number, uint8_t *text, size_t text_len, size_t *meaning_len);
+
+/* ---- SHA-256 */
+
+/* The digest of a message. Refuses: 2 the message has 2^61 bytes or more. */
+uint8_t cerberus_sha256(const uint8_t *message, size_t message_len, uint8_t digest[32]);
+
+/* ---- the measurement log: *count is its state, the number of entries */
+
+#define CERBERUS_LOG_ENTRY_LEN 87
+#define CERBERUS_LOG_CAPACITY 64
+#define CERBERUS_LOG_BUFFER_LEN 5568
+
+/* An empty log: buffer becomes zero, *count 0.
+ * Refuses: 3 buffer has not exactly 5,568 bytes. */
+uint8_t cerberus_log_reset(size_t *count, uint8_t *buffer, size_t buffer_len);
+
+/* One more entry; *count rises by one.
+ * Refuses: 3 buffer length; 4 count above 64, or the log in buffer isn't what
+ * records from a reset write; 5 pmr above 4; 7 64 entries present. */
+uint8_t cerberus_log_record(size_t *count, uint8_t pmr, uint32_t event_type, const uint8_t digest[32],
+                            uint8_t *buffer, size_t buffer_len);
+
+/* A register's 32 bytes, worked out from the log.
+ * Refuses: 3; 4; 5, as record. */
+uint8_t cerberus_log_register(size_t count, uint8_t pmr, const uint8_t *buffer, size_t buffer_len,
+                              uint8_t value[32]);
+
+/* The log's text: the first *text_len bytes of buffer.
+ * Refuses: 3; 4, as record. */
+uint8_t cerberus_log_read_out(size_t count, const uint8_t *buffer, size_t buffer_len, size_t *text_len);
+
+/* The number that cerberus_log_read_out answers for the same log. */
+uint8_t cerberus_log_read_out_verdict(size_t count, const uint8_t *buffer, size_t buffer_len);
+
+/* A new run from a recorded text: buffer becomes the text and then zeros,
+ * whatever it held, and *count the text's entries; *count is not read.
+ * Refuses: 3 buffer length; 2 text_len not a multiple of 87 or above 5,568;
+ * 4 no run of records from a reset writes the text. */
+uint8_t cerberus_log_replay(size_t *count, const uint8_t *text, size_t text_len, uint8_t *buffer, size_t buffer_len);
+
+/* ---- the manifest slot */
+
+#define CERBERUS_SLOT_BUFFER_LEN 4096
+
+/* The state of a slot. Idle has receiving, total and received 0. Any other
+ * numbers than the ranges given here are not a state (refusal 4). */
+typedef struct {
+    uint64_t magic;         /* 0 to 65,535: the manifests' magic number */
+    uint64_t active_length; /* 0 for none, else 13 to 4,096 */
+    uint64_t active_id;     /* the active manifest's version id, 32 bits; 0 for none */
+    uint64_t receiving;     /* 1 while a transfer is under way, else 0 */
+    uint64_t total;         /* of the transfer: 13 to 4,096 */
+    uint64_t received;      /* so far: at most total */
+} cerberus_slot;
+
+/* Opens a slot: both buffers become zero, and *slot, which is not read, the
+ * idle state with no active manifest.
+ * Refuses: 3 pending or active has not exactly 4,096 bytes. */
+uint8_t cerberus_slot_open(cerberus_slot *slot, uint16_t magic, uint8_t *pending, size_t pending_len,
+                           uint8_t *active, size_t active_len);
+
+/* Begins a transfer of total bytes, and drops one under way.
+ * Refuses: 3 buffers' lengths; 4 *slot is not a state; 5 total outside 13 to 4,096. */
+uint8_t cerberus_slot_prepare(cerberus_slot *slot, uint32_t total, const uint8_t *pending, size_t pending_len,
+                              const uint8_t *active, size_t active_len);
+
+/* The next bytes of the transfer go into pending behind those received.
+ * Refuses: 3; 4; 2 payload_len is 0; 5 more than is still to come; 6 idle. */
+uint8_t cerberus_slot_update(cerberus_slot *slot, const uint8_t *payload, size_t payload_len,
+                             uint8_t *pending, size_t pending_len, const uint8_t *active, size_t active_len);
+
+/* The pending manifest becomes the active one: active becomes its bytes and
+ * then zeros, and the slot is idle. signature_good is the board's verdict on
+ * its signature: 1 for good, any other number for bad.
+ * Refuses: 3; 4; 6 idle or incomplete; 8 the manifest header breaks its rules;
+ * 9 its version id isn't above the active one's; 10 signature bad. */
+uint8_t cerberus_slot_activate(cerberus_slot *slot, uint8_t signature_good, const uint8_t *pending, size_t pending_len,
+                               uint8_t *active, size_t active_len);
+
+#define CERBERUS_ROLE_ACTIVE 0
+#define CERBERUS_ROLE_PENDING 1
+
+/* The manifest of a role: the first *length bytes of active or of pending.
+ * Refuses: 3; 4; 5 role is neither 0 nor 1. */
+uint8_t cerberus_slot_manifest(const cerberus_slot *slot, uint8_t role, const uint8_t *pending, size_t pending_len,
+                               const uint8_t *active, size_t active_len, size_t *length);
+
+/* ---- Cerberus messages */
+
+/* Whether a message is ours and offered, by its first five bytes.
+ * Refuses: 1 short, another type or vendor, integrity flag or a reserved bit
+ * set; 11 request type or crypt set, or a command other than 0x62 to 0x65. */
+uint8_t cerberus_header(const uint8_t *message, size_t message_len);
+
+/* Carries out a PCD command on a slot and its buffers. Get PCD Id writes ten
+ * bytes to the front of response and sets *written to 10; the others write
+ * nothing and set it to 0. signature_good is used by Activate PCD alone.
+ * Refuses: 3 a slot buffer's length, or response_len under 10; 4 *slot is not a
+ * state; 1 and 11, as cerberus_header; 11 Get PCD Id with the one byte 0x01
+ * (platform id); 2 the body's length; 5 Get PCD Id with another byte than 0x00;
+ * then as the slot call that the command stands for. */
+uint8_t cerberus_command(cerberus_slot *slot, uint8_t signature_good, const uint8_t *message, size_t message_len,
+                         uint8_t *pending, size_t pending_len, uint8_t *active, size_t active_len,
+                         uint8_t *response, size_t response_len, size_t *written);
+
+/* ---- manifest elements: readers refuse 12 alone, writers 12 and then 3 for
+ * a buffer that hasn't exactly the element's length */
+
+/* A flash region, 8 bytes; end is the last valid address. */
+uint8_t cerberus_region_read(const uint8_t *element, size_t element_len, uint32_t *start, uint32_t *end);
+uint8_t cerberus_region_write(uint32_t start, uint32_t end, uint8_t *buffer, size_t buffer_len);
+
+/* An R/W region, 12 bytes; operation 0 nothing, 1 restore, 2 erase, 3 reserved
+ * (a writer refuses a number above 3 with 12). */
+uint8_t cerberus_rw_region_read(const uint8_t *element, size_t element_len, uint8_t *operation, uint32_t *start, uint32_t *end);
+uint8_t cerberus_rw_region_write(uint8_t operation, uint32_t start, uint32_t end, uint8_t *buffer, size_t buffer_len);
+
+/* A signed image; hash_type 0, 1, 2 for hashes of 32, 48, 64 bytes. The hash is
+ * the *hash_len bytes of element from 4 on, the regions are all behind it.
+ * must_validate is 0 or 1 (a writer refuses another number with 12). */
+uint8_t cerberus_signed_image_read(const uint8_t *element, size_t element_len, uint8_t *hash_type, uint8_t *region_count,
+                                   uint8_t *must_validate, size_t *hash_len);
+/* Region index, from 0; 12 also where there is no such region. */
+uint8_t cerberus_signed_image_region(const uint8_t *element, size_t element_len, size_t index, uint32_t *start, uint32_t *end);
+uint8_t cerberus_signed_image_write(uint8_t hash_type, uint8_t must_validate, const uint8_t *hash, size_t hash_len,
+                                    const uint8_t *regions, size_t regions_len, uint8_t *buffer, size_t buffer_len);
+
+/* Root CAs; the hash type is the caller's. The hashes are the *hash_len bytes
+ * each, *count of them, of element from 4 on. */
+uint8_t cerberus_root_cas_read(uint8_t hash_type, const uint8_t *element, size_t element_len, uint8_t *count, size_t *hash_len);
+/* Hash index, from 0: the *hash_len bytes of element from *offset on; 12 also where there is no such hash. */
+uint8_t cerberus_root_cas_hash(uint8_t hash_type, const uint8_t *element, size_t element_len, size_t index,
+                               size_t *offset, size_t *hash_len);
+uint8_t cerberus_root_cas_write(uint8_t hash_type, const uint8_t *hashes, size_t hashes_len, uint8_t *buffer, size_t buffer_len);
+
+#ifdef __cplusplus
+}
+#endif
+#endif

@@ -1,0 +1,180 @@
+//! The functions of include/cerberus.h, declared again. The stand-in includes that header itself,
+//! so the self-test would show a declaration that is not the header's.
+
+use crate::model::slot::Numbers;
+
+/// The header's cerberus_slot.
+#[repr(C)]
+pub struct Slot {
+    magic: u64,
+    active_length: u64,
+    active_id: u64,
+    receiving: u64,
+    total: u64,
+    received: u64,
+}
+
+pub const SLOT_LEN: usize = size_of::<Slot>();
+
+/// A slot's bytes, as they lie in memory.
+pub fn slot_bytes(slot: &Numbers) -> Vec<u8> {
+    let fields = [slot.magic, slot.active_length, slot.active_id, slot.receiving, slot.total, slot.received];
+    fields.iter().flat_map(|field| field.to_ne_bytes()).collect()
+}
+
+pub fn slot_numbers(bytes: &[u8]) -> Numbers {
+    let field = |i: usize| u64::from_ne_bytes(bytes[8 * i..8 * i + 8].try_into().unwrap());
+    Numbers {
+        magic: field(0),
+        active_length: field(1),
+        active_id: field(2),
+        receiving: field(3),
+        total: field(4),
+        received: field(5),
+    }
+}
+
+unsafe extern "C" {
+    pub fn cerberus_meaning(number: u8, text: *mut u8, text_len: usize, meaning_len: *mut usize) -> u8;
+
+    pub fn cerberus_sha256(message: *const u8, message_len: usize, digest: *mut u8) -> u8;
+
+    pub fn cerberus_log_reset(count: *mut usize, buffer: *mut u8, buffer_len: usize) -> u8;
+    pub fn cerberus_log_record(
+        count: *mut usize,
+        pmr: u8,
+        event_type: u32,
+        digest: *const u8,
+        buffer: *mut u8,
+        buffer_len: usize,
+    ) -> u8;
+    pub fn cerberus_log_register(count: usize, pmr: u8, buffer: *const u8, buffer_len: usize, value: *mut u8) -> u8;
+    pub fn cerberus_log_read_out(count: usize, buffer: *const u8, buffer_len: usize, text_len: *mut usize) -> u8;
+    pub fn cerberus_log_read_out_verdict(count: usize, buffer: *const u8, buffer_len: usize) -> u8;
+    pub fn cerberus_log_replay(
+        count: *mut usize,
+        text: *const u8,
+        text_len: usize,
+        buffer: *mut u8,
+        buffer_len: usize,
+    ) -> u8;
+
+    pub fn cerberus_slot_open(
+        slot: *mut Slot,
+        magic: u16,
+        pending: *mut u8,
+        pending_len: usize,
+        active: *mut u8,
+        active_len: usize,
+    ) -> u8;
+    pub fn cerberus_slot_prepare(
+        slot: *mut Slot,
+        total: u32,
+        pending: *const u8,
+        pending_len: usize,
+        active: *const u8,
+        active_len: usize,
+    ) -> u8;
+    pub fn cerberus_slot_update(
+        slot: *mut Slot,
+        payload: *const u8,
+        payload_len: usize,
+        pending: *mut u8,
+        pending_len: usize,
+        active: *const u8,
+        active_len: usize,
+    ) -> u8;
+    pub fn cerberus_slot_activate(
+        slot: *mut Slot,
+        signature_good: u8,
+        pending: *const u8,
+        pending_len: usize,
+        active: *mut u8,
+        active_len: usize,
+    ) -> u8;
+    pub fn cerberus_slot_manifest(
+        slot: *const Slot,
+        role: u8,
+        pending: *const u8,
+        pending_len: usize,
+        active: *const u8,
+        active_len: usize,
+        length: *mut usize,
+    ) -> u8;
+
+    pub fn cerberus_header(message: *const u8, message_len: usize) -> u8;
+    pub fn cerberus_command(
+        slot: *mut Slot,
+        signature_good: u8,
+        message: *const u8,
+        message_len: usize,
+        pending: *mut u8,
+        pending_len: usize,
+        active: *mut u8,
+        active_len: usize,
+        response: *mut u8,
+        response_len: usize,
+        written: *mut usize,
+    ) -> u8;
+
+    pub fn cerberus_region_read(element: *const u8, element_len: usize, start: *mut u32, end: *mut u32) -> u8;
+    pub fn cerberus_region_write(start: u32, end: u32, buffer: *mut u8, buffer_len: usize) -> u8;
+
+    pub fn cerberus_rw_region_read(
+        element: *const u8,
+        element_len: usize,
+        operation: *mut u8,
+        start: *mut u32,
+        end: *mut u32,
+    ) -> u8;
+    pub fn cerberus_rw_region_write(operation: u8, start: u32, end: u32, buffer: *mut u8, buffer_len: usize) -> u8;
+
+    pub fn cerberus_signed_image_read(
+        element: *const u8,
+        element_len: usize,
+        hash_type: *mut u8,
+        region_count: *mut u8,
+        must_validate: *mut u8,
+        hash_len: *mut usize,
+    ) -> u8;
+    pub fn cerberus_signed_image_region(
+        element: *const u8,
+        element_len: usize,
+        index: usize,
+        start: *mut u32,
+        end: *mut u32,
+    ) -> u8;
+    pub fn cerberus_signed_image_write(
+        hash_type: u8,
+        must_validate: u8,
+        hash: *const u8,
+        hash_len: usize,
+        regions: *const u8,
+        regions_len: usize,
+        buffer: *mut u8,
+        buffer_len: usize,
+    ) -> u8;
+
+    pub fn cerberus_root_cas_read(
+        hash_type: u8,
+        element: *const u8,
+        element_len: usize,
+        count: *mut u8,
+        hash_len: *mut usize,
+    ) -> u8;
+    pub fn cerberus_root_cas_hash(
+        hash_type: u8,
+        element: *const u8,
+        element_len: usize,
+        index: usize,
+        offset: *mut usize,
+        hash_len: *mut usize,
+    ) -> u8;
+    pub fn cerberus_root_cas_write(
+        hash_type: u8,
+        hashes: *const u8,
+        hashes_len: usize,
+        buffer: *mut u8,
+        buffer_len: usize,
+    ) -> u8;
+}

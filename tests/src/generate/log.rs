@@ -1,0 +1,304 @@
+//! Logs: sound ones, damaged ones, and ones that a writer with one wrong rule would leave.
+
+use super::{absurd_len, damage, size, word, wrong_len};
+use crate::calls::{Call, Case};
+use crate::model::log::{BUFFER_LEN, Book, CAPACITY, ENTRY_LEN, Record};
+use crate::model::sha256::sha256;
+use crate::rng::Rng;
+
+pub fn record(rng: &mut Rng) -> Record {
+    let digest = rng.filling(32).try_into().unwrap();
+    Record { pmr: rng.below(5) as u8, event_type: word(rng), digest }
+}
+
+/// A sound log of so many entries, all of one PMR now and then.
+pub fn book(entries: usize, rng: &mut Rng) -> Book {
+    let only = rng.chance(15).then(|| rng.below(5) as u8);
+    let mut book = Book::empty();
+    for _ in 0..entries {
+        let record = record(rng);
+        book.add(Record { pmr: only.unwrap_or(record.pmr), ..record }).unwrap();
+    }
+    book
+}
+
+/// Sound logs to make cases from.
+pub struct Pool {
+    short: Vec<Book>,
+    middle: Vec<Book>,
+    long: Vec<Book>,
+}
+
+impl Pool {
+    pub fn new(rng: &mut Rng) -> Pool {
+        let long = [21, 32, 48, 62, 63, 63, 64, 64, 64, 64];
+        Pool {
+            short: (0..70).map(|i| book(i % 7, rng)).collect(),
+            middle: (7..21).map(|i| book(i, rng)).collect(),
+            long: long.iter().map(|&i| book(i, rng)).collect(),
+        }
+    }
+
+    /// Most logs are short, as each entry costs hashes on both sides.
+    pub fn pick(&self, rng: &mut Rng) -> &Book {
+        let size = match rng.below(20) {
+            0..14 => &self.short,
+            14..17 => &self.middle,
+            _ => &self.long,
+        };
+        &size[rng.below(size.len())]
+    }
+}
+
+pub fn reset(rng: &mut Rng) -> Case {
+    let len = if rng.chance(60) { BUFFER_LEN } else { wrong_len(BUFFER_LEN, rng) };
+    let case = Case::new(Call::LogReset, &[], vec![size(rng), rng.filling(len)]);
+    if rng.chance(2) { case.claiming(1, absurd_len(BUFFER_LEN, rng), 3) } else { case }
+}
+
+/// A case of one of the four calls that take a state.
+pub fn over_state(call: Call, pool: &Pool, rng: &mut Rng) -> Case {
+    let (count, mut buffer) = state(pool, rng);
+    if rng.chance(8) {
+        buffer.resize(wrong_len(BUFFER_LEN, rng), 0);
+    }
+    let case = of_state(call, count, pmr(rng), buffer, rng);
+    if rng.chance(2) { case.claiming(buffer_place(call), absurd_len(BUFFER_LEN, rng), 3) } else { case }
+}
+
+/// Which of a call's lent memories the log's buffer is.
+fn buffer_place(call: Call) -> usize {
+    if call == Call::LogRecord { 2 } else { 0 }
+}
+
+pub fn of_state(call: Call, count: u64, pmr: u8, buffer: Vec<u8>, rng: &mut Rng) -> Case {
+    let pmr = u64::from(pmr);
+    match call {
+        Call::LogRecord => {
+            let record = record(rng);
+            let lent = vec![count.to_ne_bytes().to_vec(), record.digest.to_vec(), buffer];
+            Case::new(call, &[pmr, u64::from(record.event_type)], lent)
+        }
+        Call::LogRegister => Case::new(call, &[count, pmr], vec![buffer, rng.bytes(32)]),
+        Call::LogReadOut => Case::new(call, &[count], vec![buffer, size(rng)]),
+        Call::LogReadOutVerdict => Case::new(call, &[count], vec![buffer]),
+        _ => unreachable!("not a call over a log's state"),
+    }
+}
+
+pub fn pmr(rng: &mut Rng) -> u8 {
+    match rng.below(10) {
+        0 => 5,
+        1 => rng.pick(&[6, 7, 8, 0x80, 0xff]),
+        2 => rng.byte(),
+        _ => rng.below(5) as u8,
+    }
+}
+
+/// A count and a buffer of the right length, sound in half of the cases.
+fn state(pool: &Pool, rng: &mut Rng) -> (u64, Vec<u8>) {
+    let book = pool.pick(rng);
+    let count = book.records().len() as u64;
+    match rng.below(20) {
+        0..10 => (count, book.buffer()),
+        10..13 => (count, damaged_within(book, rng)),
+        13 => (count, damaged_behind(book, rng)),
+        14..16 => (other_count(count, rng), book.buffer()),
+        16..19 => of_text(unsound_text(book, rng)),
+        _ => (count, rng.filling(BUFFER_LEN)),
+    }
+}
+
+/// The count and buffer that go with a text.
+fn of_text(mut text: Vec<u8>) -> (u64, Vec<u8>) {
+    let count = (text.len() / ENTRY_LEN) as u64;
+    text.resize(BUFFER_LEN, 0);
+    (count, text)
+}
+
+fn damaged_within(book: &Book, rng: &mut Rng) -> Vec<u8> {
+    let mut buffer = book.buffer();
+    let places = book.text().len().max(1);
+    for _ in 0..rng.pick(&[1, 1, 1, 2, 5]) {
+        let at = rng.below(places);
+        damage(&mut buffer, at, rng);
+    }
+    buffer
+}
+
+fn damaged_behind(book: &Book, rng: &mut Rng) -> Vec<u8> {
+    let mut buffer = book.buffer();
+    let first = book.text().len();
+    let random = first + rng.below(BUFFER_LEN.saturating_sub(first).max(1));
+    let at = rng.pick(&[first, random, random, BUFFER_LEN - 1]).min(BUFFER_LEN - 1);
+    damage(&mut buffer, at, rng);
+    buffer
+}
+
+/// The inverse of 87 modulo 2^64: 87 times a multiple of it wraps to a small number.
+const INVERSE: u64 = {
+    let mut inverse: u64 = 1;
+    let mut step = 0;
+    while step < 6 {
+        inverse = inverse.wrapping_mul(2u64.wrapping_sub(87u64.wrapping_mul(inverse)));
+        step += 1;
+    }
+    inverse
+};
+
+/// A count that is not the log's own: one off, at the limit, or where 87 times it overflows.
+pub fn other_count(count: u64, rng: &mut Rng) -> u64 {
+    let wrapping = INVERSE.wrapping_mul(rng.below(BUFFER_LEN + 1) as u64);
+    let near = [count.wrapping_sub(1), count + 1, 63, 64, 65, 66];
+    let far = [
+        (1 << 8) + count,
+        (1 << 16) + count,
+        (1 << 32) + count,
+        (1 << 63) + count,
+        u64::MAX,
+        u64::MAX - 63,
+        u64::MAX / 87,
+        u64::MAX / 87 + 1,
+        wrapping,
+    ];
+    if rng.chance(60) { rng.pick(&near) } else { rng.pick(&far) }
+}
+
+/// A case of replay.
+pub fn replay(pool: &Pool, rng: &mut Rng) -> Case {
+    let book = pool.pick(rng);
+    let text = match rng.below(20) {
+        0..9 => book.text().to_vec(),
+        9..13 => damaged_within(book, rng)[..book.text().len()].to_vec(),
+        13..16 => unsound_text(book, rng),
+        16 => rng.filling(book.text().len()),
+        _ => of_other_length(book, rng),
+    };
+    let len = if rng.chance(90) { BUFFER_LEN } else { wrong_len(BUFFER_LEN, rng) };
+    let case = of_replay(text, rng.filling(len), rng);
+    let claims_text = rng.chance(50);
+    match rng.below(50) {
+        0 if claims_text && len == BUFFER_LEN => case.claiming(1, absurd_len(ENTRY_LEN, rng), 2),
+        0 => case.claiming(2, absurd_len(BUFFER_LEN, rng), 3),
+        _ => case,
+    }
+}
+
+pub fn of_replay(text: Vec<u8>, buffer: Vec<u8>, rng: &mut Rng) -> Case {
+    Case::new(Call::LogReplay, &[], vec![size(rng), text, buffer])
+}
+
+/// A sound log's text, longer or shorter than it was.
+fn of_other_length(book: &Book, rng: &mut Rng) -> Vec<u8> {
+    let len = book.text().len();
+    let near = [len.saturating_sub(1), len + 1, len + 86, len + 87, len.saturating_sub(87)];
+    let far = [1, 86, 88, BUFFER_LEN - 1, BUFFER_LEN, BUFFER_LEN + 1, BUFFER_LEN + 87, 2 * BUFFER_LEN, 6000];
+    let len = if rng.chance(50) { rng.pick(&near) } else { rng.pick(&far) };
+    let mut text = book.text().to_vec();
+    text.resize(len, 0);
+    text
+}
+
+/// The rules of a log writer.
+#[derive(Clone, Copy)]
+struct Rules {
+    digest_first: bool,
+    index_over_whole_log: bool,
+    measurement_is_old_register: bool,
+    high_byte_first: bool,
+    one_register: bool,
+    first_id: u32,
+    first_index: u8,
+    first_register: u8,
+    format: u8,
+    entry_len: u16,
+    digest_count: u8,
+    algorithm: u8,
+    size: u32,
+    pmr_shift: u8,
+}
+
+const RIGHT: Rules = Rules {
+    digest_first: false,
+    index_over_whole_log: false,
+    measurement_is_old_register: false,
+    high_byte_first: false,
+    one_register: false,
+    first_id: 0,
+    first_index: 0,
+    first_register: 0,
+    format: 0x0b,
+    entry_len: 87,
+    digest_count: 1,
+    algorithm: 0x0b,
+    size: 32,
+    pmr_shift: 0,
+};
+
+/// The right writer, and writers with one wrong rule each.
+const WRITERS: [Rules; 15] = [
+    RIGHT,
+    Rules { digest_first: true, ..RIGHT },
+    Rules { index_over_whole_log: true, ..RIGHT },
+    Rules { measurement_is_old_register: true, ..RIGHT },
+    Rules { high_byte_first: true, ..RIGHT },
+    Rules { one_register: true, ..RIGHT },
+    Rules { first_id: 1, ..RIGHT },
+    Rules { first_index: 1, ..RIGHT },
+    Rules { first_register: 0xff, ..RIGHT },
+    Rules { format: 0xcb, ..RIGHT },
+    Rules { entry_len: 89, ..RIGHT },
+    Rules { digest_count: 2, ..RIGHT },
+    Rules { algorithm: 0x0c, ..RIGHT },
+    Rules { size: 64, ..RIGHT },
+    // PMRs 4 to 8: some are out of range though all else is by the rules.
+    Rules { pmr_shift: 4, ..RIGHT },
+];
+
+/// The text that a writer with these rules leaves for the records.
+fn written_by(rules: &Rules, records: &[Record]) -> Vec<u8> {
+    let mut registers = [[rules.first_register; 32]; 16];
+    let mut indices = [rules.first_index; 16];
+    let mut text = Vec::new();
+    for (id, record) in records.iter().enumerate() {
+        let pmr = record.pmr + rules.pmr_shift;
+        let register = if rules.one_register { 0 } else { usize::from(pmr) };
+        let old = registers[register];
+        let joined = if rules.digest_first { [record.digest, old] } else { [old, record.digest] };
+        registers[register] = sha256(&joined.concat());
+        let measurement = if rules.measurement_is_old_register { old } else { registers[register] };
+        let index = if rules.index_over_whole_log { id as u8 } else { indices[usize::from(pmr)] };
+        indices[usize::from(pmr)] += 1;
+        text.push(rules.format);
+        text.extend(rules.entry_len.to_le_bytes());
+        text.extend(number(rules, id as u32 + rules.first_id));
+        text.extend(record.event_type.to_le_bytes());
+        text.extend([index, pmr, 0, 0, rules.digest_count, 0, 0, rules.algorithm]);
+        text.extend(record.digest);
+        text.extend(number(rules, rules.size));
+        text.extend(measurement);
+    }
+    text
+}
+
+fn number(rules: &Rules, number: u32) -> [u8; 4] {
+    if rules.high_byte_first { number.to_be_bytes() } else { number.to_le_bytes() }
+}
+
+/// A text of whole entries that no run of records writes, as a rule.
+fn unsound_text(book: &Book, rng: &mut Rng) -> Vec<u8> {
+    if rng.chance(50) {
+        let rules = WRITERS[rng.below(WRITERS.len())];
+        return written_by(&rules, book.records());
+    }
+    let mut entries: Vec<&[u8]> = book.text().chunks_exact(ENTRY_LEN).collect();
+    let (a, b) = (rng.below(entries.len().max(1)), rng.below(entries.len().max(1)));
+    match rng.below(4) {
+        _ if entries.is_empty() => entries.push(&[0; ENTRY_LEN]),
+        0 => entries.swap(a, b),
+        1 => drop(entries.remove(a)),
+        2 if entries.len() < CAPACITY => entries.insert(a, entries[b]),
+        _ => entries[a] = &[0; ENTRY_LEN],
+    }
+    entries.concat()
+}

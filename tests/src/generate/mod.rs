@@ -1,0 +1,89 @@
+//! The inputs. Each generator breaks several rules at once now and then, so that the order of the
+//! refusals shows; what the answer is, the model says.
+
+pub mod element;
+pub mod log;
+pub mod message;
+pub mod sha256;
+pub mod slot;
+
+use crate::calls::{Call, Case};
+use crate::rng::Rng;
+
+/// A random case of a call.
+pub struct Generator {
+    logs: Option<log::Pool>,
+}
+
+impl Generator {
+    /// The logs that cases are made from are built once, as they cost a hash for each entry.
+    pub fn new(call: Call, rng: &mut Rng) -> Generator {
+        let over_a_log = matches!(
+            call,
+            Call::LogRecord | Call::LogRegister | Call::LogReadOut | Call::LogReadOutVerdict | Call::LogReplay
+        );
+        Generator { logs: over_a_log.then(|| log::Pool::new(rng)) }
+    }
+
+    pub fn case(&self, call: Call, rng: &mut Rng) -> Case {
+        match (call, &self.logs) {
+            (Call::Meaning, _) => meaning(rng),
+            (Call::Sha256, _) => sha256::case(rng),
+            (Call::LogReset, _) => log::reset(rng),
+            (Call::LogReplay, Some(pool)) => log::replay(pool, rng),
+            (_, Some(pool)) => log::over_state(call, pool, rng),
+            (Call::SlotOpen, _) => slot::open(rng),
+            (Call::SlotPrepare, _) => slot::prepare(rng),
+            (Call::SlotUpdate, _) => slot::update(rng),
+            (Call::SlotActivate, _) => slot::activate(rng),
+            (Call::SlotManifest, _) => slot::manifest(rng),
+            (Call::Header, _) => message::header(rng),
+            (Call::Command, _) => message::command(rng),
+            _ => element::case(call, rng),
+        }
+    }
+}
+
+/// The call for a number's meaning.
+fn meaning(rng: &mut Rng) -> Case {
+    let number = if rng.chance(60) { rng.below(15) as u8 } else { rng.byte() };
+    let len = rng.pick(&[0, 1, 79, 80, 81, 100, 160]);
+    let len = if rng.chance(60) { 80 + rng.below(40) } else { len };
+    meaning_case(number, rng.bytes(len), rng)
+}
+
+pub fn meaning_case(number: u8, text: Vec<u8>, rng: &mut Rng) -> Case {
+    Case::new(Call::Meaning, &[u64::from(number)], vec![text, size(rng)])
+}
+
+/// Memory for an answer, of which a refused call leaves every byte.
+pub fn size(rng: &mut Rng) -> Vec<u8> {
+    rng.bytes(8)
+}
+
+/// A length near or far from the right one, and seldom the right one itself.
+pub fn wrong_len(right: usize, rng: &mut Rng) -> usize {
+    let near = [0, 1, right.saturating_sub(1), right + 1, right.saturating_sub(87), right + 87, right / 2, 2 * right];
+    if rng.chance(80) { rng.pick(&near) } else { rng.below(2 * right + 2) }
+}
+
+/// A length that no memory has.
+pub fn absurd_len(right: usize, rng: &mut Rng) -> usize {
+    let absurd = [usize::MAX, 1 << 63, (1 << 32) + right, (1 << 63) + right, usize::MAX - 86, usize::MAX / 87 * 87];
+    rng.pick(&absurd)
+}
+
+/// A 32-bit number, often at an edge.
+pub fn word(rng: &mut Rng) -> u32 {
+    match rng.below(3) {
+        0 => rng.pick(&[0, 1, 10, 0x7fff_ffff, 0x8000_0000, 0xffff_fffe, 0xffff_ffff]),
+        1 => rng.below(0x2000) as u32,
+        _ => rng.next() as u32,
+    }
+}
+
+/// Flips bits of one byte.
+pub fn damage(bytes: &mut [u8], at: usize, rng: &mut Rng) {
+    let bits = if rng.chance(70) { 1 << rng.below(8) } else { 1 + rng.below(255) as u8 };
+    bytes[at] ^= bits;
+}

@@ -1,0 +1,143 @@
+//! Compares libcerberus.a with an implementation of document 01 written from the papers alone.
+
+mod calls;
+mod crash;
+mod ffi;
+mod generate;
+mod harness;
+mod installed;
+mod memory;
+mod model;
+mod paper;
+mod plan;
+mod report;
+mod rng;
+#[cfg(feature = "standin")]
+mod selftest;
+mod sequence;
+mod systematic;
+mod workers;
+
+use harness::Tallies;
+use plan::Job;
+use report::thousands;
+use std::path::PathBuf;
+use std::process::ExitCode;
+use std::time::Instant;
+
+/// So many differences are shown in full.
+const SHOWN: usize = 5;
+
+#[derive(Clone)]
+pub struct Options {
+    cases: u64,
+    seed: u64,
+    threads: usize,
+    job: Option<String>,
+    /// The stand-in's fault that is on from the start; the self-test starts itself with one.
+    fault: i32,
+    /// Where files may be written for a while.
+    scratch: PathBuf,
+}
+
+const USAGE: &str = "\
+options: --cases N    at least N random cases of each call (default 100000)
+         --seed S     the seed of all random numbers (default 1)
+         --threads T  threads (default: the machine's processors)
+         --job NAME   only the job of this name, as a difference names it
+         --scratch D  the folder for temporary files";
+
+fn options() -> Result<Options, String> {
+    let threads = std::thread::available_parallelism().map_or(2, usize::from);
+    let scratch = std::env::temp_dir();
+    let mut options = Options { cases: 100_000, seed: 1, threads, job: None, fault: 0, scratch };
+    let mut words = std::env::args().skip(1);
+    while let Some(word) = words.next() {
+        let value = words.next().ok_or(format!("{word} needs a value"))?;
+        let number = || value.parse::<u64>().map_err(|_| format!("{word} needs a number, not {value}"));
+        match word.as_str() {
+            "--cases" => options.cases = number()?.max(1),
+            "--seed" => options.seed = number()?,
+            "--threads" => options.threads = number()?.clamp(1, 64) as usize,
+            "--job" => options.job = Some(value),
+            "--scratch" => options.scratch = value.into(),
+            "--fault" if cfg!(feature = "standin") => {
+                options.fault = value.parse().map_err(|_| "--fault needs a number")?
+            }
+            _ => return Err(format!("unknown option {word}")),
+        }
+    }
+    Ok(options)
+}
+
+fn main() -> ExitCode {
+    let options = match options() {
+        Ok(options) => options,
+        Err(message) => {
+            eprintln!("{message}\n{USAGE}");
+            return ExitCode::from(2);
+        }
+    };
+    crash::report_crashes();
+    #[cfg(feature = "standin")]
+    let passed = selftest::run(&options);
+    #[cfg(not(feature = "standin"))]
+    let passed = compare(&options);
+    if passed { ExitCode::SUCCESS } else { ExitCode::FAILURE }
+}
+
+/// The whole comparison, with its table. Whether nothing differs and nothing is missing.
+pub fn compare(options: &Options) -> bool {
+    let start = Instant::now();
+    println!("seed {}, at least {} cases of each call, {} threads", options.seed, options.cases, options.threads);
+    let jobs = plan::jobs(options.cases);
+    let chosen = chosen(&jobs, options);
+    if chosen.is_empty() {
+        println!("there is no such job");
+        return false;
+    }
+    let tallies = workers::run(&chosen, options.seed, options.threads, true);
+    let mut differences = tallies.differences();
+    let mut missing = Vec::new();
+    if options.job.is_none() {
+        differences += installed(options);
+        missing = report::missing(&tallies, options.cases);
+    }
+    println!("\n{}", report::table(&tallies));
+    show_differences(&tallies);
+    missing.iter().for_each(|missing| println!("missing: {missing}"));
+    println!("{} s", start.elapsed().as_secs());
+    let unreached = if missing.is_empty() { String::new() } else { format!(", {} missing", missing.len()) };
+    println!("{} cases, {differences} differences{unreached}", thousands(tallies.cases()));
+    differences == 0 && missing.is_empty()
+}
+
+fn chosen<'a>(jobs: &'a [Job], options: &Options) -> Vec<&'a Job> {
+    jobs.iter().filter(|job| options.job.as_ref().is_none_or(|name| *name == job.name)).collect()
+}
+
+fn show_differences(tallies: &Tallies) {
+    let shown = tallies.0.iter().flat_map(|tally| &tally.shown);
+    for (number, difference) in shown.take(SHOWN).enumerate() {
+        println!("difference {}: {difference}", number + 1);
+    }
+}
+
+/// The number of messages that the machine's own SHA-256 hashes to something else.
+fn installed(options: &Options) -> u64 {
+    match installed::compare(&options.scratch.join("sha256"), options.seed) {
+        Ok((messages, differences)) => {
+            let count = differences.len();
+            println!(
+                "SHA-256 against sha256sum, every length 0 to 1,100: {} messages, {count} differences",
+                thousands(messages as u64)
+            );
+            differences.iter().take(SHOWN).for_each(|difference| println!("{difference}"));
+            count as u64
+        }
+        Err(error) => {
+            println!("SHA-256 against sha256sum: {error}");
+            1
+        }
+    }
+}

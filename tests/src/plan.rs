@@ -1,0 +1,129 @@
+//! The jobs: which cases are run. Each job's cases follow from the seed and the job's name alone,
+//! whichever thread runs it.
+
+use crate::calls::{CALLS, Call};
+use crate::generate::Generator;
+use crate::harness::Harness;
+use crate::rng::Rng;
+use crate::sequence::slot::Way;
+use crate::{paper, sequence, systematic};
+
+/// So many random cases make a job.
+const PART: u64 = 5_000;
+/// So many lists of calls make a job.
+const LISTS: u64 = 50;
+
+type Work = Box<dyn Fn(&mut Harness, &mut Rng) + Send + Sync>;
+
+pub struct Job {
+    pub name: String,
+    /// The calls that it has cases of, by which the self-test chooses jobs.
+    #[cfg_attr(not(feature = "standin"), allow(dead_code))]
+    pub calls: Vec<Call>,
+    work: Work,
+}
+
+impl Job {
+    pub fn run(&self, harness: &mut Harness, seed: u64) {
+        harness.begin(seed, &self.name);
+        (self.work)(harness, &mut Rng::new(seed, &self.name, 0));
+    }
+}
+
+const OVER_LOG: [Call; 6] =
+    [Call::LogReset, Call::LogRecord, Call::LogRegister, Call::LogReadOut, Call::LogReadOutVerdict, Call::LogReplay];
+const OVER_SLOT: [Call; 6] =
+    [Call::SlotOpen, Call::SlotPrepare, Call::SlotUpdate, Call::SlotActivate, Call::SlotManifest, Call::Command];
+const OVER_ELEMENT: [Call; 10] = [
+    Call::RegionRead,
+    Call::RegionWrite,
+    Call::RwRegionRead,
+    Call::RwRegionWrite,
+    Call::SignedImageRead,
+    Call::SignedImageRegion,
+    Call::SignedImageWrite,
+    Call::RootCasRead,
+    Call::RootCasHash,
+    Call::RootCasWrite,
+];
+
+struct Plan(Vec<Job>);
+
+impl Plan {
+    fn add(&mut self, name: &str, calls: &[Call], work: impl Fn(&mut Harness, &mut Rng) + Send + Sync + 'static) {
+        self.0.push(Job { name: name.to_string(), calls: calls.to_vec(), work: Box::new(work) });
+    }
+}
+
+/// All jobs, with at least so many random cases of each call.
+pub fn jobs(cases: u64) -> Vec<Job> {
+    let mut plan = Plan(Vec::new());
+    plan.add("paper", &CALLS, |harness, _| paper::run(harness));
+    systematic_jobs(&mut plan);
+    sequence_jobs(&mut plan, cases);
+    random_jobs(&mut plan, cases);
+    plan.0
+}
+
+fn systematic_jobs(plan: &mut Plan) {
+    for entries in [64, 12, 3, 1, 0] {
+        let name = format!("log-damaged-{entries}");
+        plan.add(&name, &OVER_LOG, move |harness, rng| systematic::log::damaged(harness, entries, rng));
+    }
+    plan.add("log-sizes", &OVER_LOG, systematic::log::sizes);
+    plan.add("log-pmrs", &OVER_LOG, systematic::log::pmrs);
+    plan.add("log-pmr-bytes", &OVER_LOG, systematic::log::pmr_bytes);
+    plan.add("log-buffer-lengths", &OVER_LOG, systematic::log::buffer_lengths);
+    plan.add("log-text-lengths", &OVER_LOG, systematic::log::text_lengths);
+    plan.add("log-refusals-at-once", &OVER_LOG, systematic::log::refusals_at_once);
+    plan.add("slot-states", &OVER_SLOT, systematic::slot::states);
+    plan.add("slot-totals", &OVER_SLOT, systematic::slot::totals);
+    plan.add("slot-payloads", &OVER_SLOT, systematic::slot::payloads);
+    plan.add("slot-header-bytes", &OVER_SLOT, systematic::slot::header_bytes);
+    plan.add("slot-header-limits", &OVER_SLOT, systematic::slot::header_limits);
+    plan.add("slot-roles-and-verdicts", &OVER_SLOT, systematic::slot::roles_and_verdicts);
+    plan.add("slot-buffer-lengths", &OVER_SLOT, systematic::slot::buffer_lengths);
+    plan.add("slot-refusals-at-once", &OVER_SLOT, systematic::slot::refusals_at_once);
+    plan.add("headers", &[Call::Header], |harness, _| systematic::message::headers(harness));
+    plan.add("header-bytes", &[Call::Header], systematic::message::header_bytes);
+    plan.add("command-bits-and-bodies", &[Call::Command], systematic::message::bits_and_bodies);
+    plan.add("command-damaged", &[Call::Command], systematic::message::damaged);
+    plan.add("command-response-lengths", &[Call::Command], systematic::message::response_lengths);
+    plan.add("command-refusals-at-once", &[Call::Command], systematic::message::refusals_at_once);
+    plan.add("element-regions", &OVER_ELEMENT, systematic::element::regions);
+    plan.add("element-damaged", &OVER_ELEMENT, systematic::element::damaged);
+    plan.add("element-lengths", &OVER_ELEMENT, systematic::element::lengths);
+    plan.add("element-types-and-counts", &OVER_ELEMENT, systematic::element::types_and_counts);
+    plan.add("element-indices", &OVER_ELEMENT, systematic::element::indices);
+    plan.add("element-absurd-lengths", &OVER_ELEMENT, systematic::element::absurd_lengths);
+    plan.add("meanings", &[Call::Meaning], systematic::meanings);
+    plan.add("messages-to-hash", &[Call::Sha256], systematic::messages_to_hash);
+}
+
+/// Lists of calls, so many of each kind that they have some tenths of the random cases' number.
+fn sequence_jobs(plan: &mut Plan, cases: u64) {
+    for part in 0..(cases / 100).div_ceil(LISTS) {
+        let name = format!("log-sequences/{part}");
+        plan.add(&name, &OVER_LOG, |harness, rng| (0..LISTS).for_each(|_| sequence::log::run(harness, rng)));
+        for (name, way) in [("slot", Way::Calls), ("command", Way::Messages), ("mixed", Way::Both)] {
+            let name = format!("{name}-sequences/{part}");
+            plan.add(&name, &OVER_SLOT, move |harness, rng| {
+                (0..LISTS).for_each(|_| sequence::slot::run(harness, way, rng))
+            });
+        }
+    }
+}
+
+fn random_jobs(plan: &mut Plan, cases: u64) {
+    for call in CALLS {
+        for part in 0..cases.div_ceil(PART) {
+            let count = PART.min(cases - part * PART);
+            plan.add(&format!("{}/{part}", call.name()), &[call], move |harness, rng| {
+                let generator = Generator::new(call, rng);
+                for _ in 0..count {
+                    harness.run(generator.case(call, rng));
+                }
+            });
+        }
+    }
+}

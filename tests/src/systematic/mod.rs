@@ -1,0 +1,36 @@
+//! Cases that are gone through one by one: every byte damaged, every length, every number at its
+//! limits, and every set of broken rules at once.
+
+pub mod element;
+pub mod log;
+pub mod message;
+pub mod slot;
+
+use crate::generate::{meaning_case, sha256};
+use crate::harness::Harness;
+use crate::rng::Rng;
+
+/// Every number with every length of text.
+pub fn meanings(harness: &mut Harness, rng: &mut Rng) {
+    for number in 0..=255 {
+        for len in 0..=100 {
+            let text = rng.bytes(len);
+            harness.run(meaning_case(number, text, rng));
+        }
+    }
+}
+
+/// Every length of message from 0 to 1,100 with several fillings.
+pub fn messages_to_hash(harness: &mut Harness, rng: &mut Rng) {
+    for len in 0..=1100 {
+        let counting = (0..len).map(|i| i as u8).collect();
+        for message in [vec![0; len], vec![0xff; len], vec![0x80; len], counting, rng.bytes(len)] {
+            harness.run(sha256::of_message(message, rng));
+        }
+    }
+}
+
+/// Whether rule `rule` is broken in the set of broken rules that `set` stands for.
+fn broken(set: u32, rule: u32) -> bool {
+    set >> rule & 1 == 1
+}

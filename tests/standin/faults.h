@@ -1,0 +1,83 @@
+/* The faults that can be switched on in the stand-in, one at a time:
+ * F(name, what is wrong, the calls whose cases must show it). */
+#define FAULTS(F) \
+    F(EQUAL_ID, "an equal version id is taken as forward", "cerberus_slot_activate cerberus_command") \
+    F(DIGEST_FIRST, "the digest is hashed before the register", \
+      "cerberus_log_record cerberus_log_register cerberus_log_read_out cerberus_log_read_out_verdict cerberus_log_replay") \
+    F(INDEX_OVER_LOG, "the measurement index counts over the whole log", \
+      "cerberus_log_record cerberus_log_register cerberus_log_read_out cerberus_log_read_out_verdict cerberus_log_replay") \
+    F(RECEIVED_RAISED, "a refused update raises received", "cerberus_slot_update cerberus_command") \
+    F(END_EXCLUSIVE, "a region's end is one past its last byte", \
+      "cerberus_region_read cerberus_region_write cerberus_rw_region_read cerberus_rw_region_write " \
+      "cerberus_signed_image_read cerberus_signed_image_region cerberus_signed_image_write") \
+    F(FULL_FIRST, "7 comes before 5", "cerberus_log_record") \
+    F(LENGTH_FIRST, "2 comes before 11", "cerberus_command") \
+    F(REPLAY_KEEPS, "replay leaves what the buffer held behind the text", "cerberus_log_replay") \
+    F(RESERVED_BIT, "a reserved bit of byte four is ignored", "cerberus_header cerberus_command") \
+    F(BUFFER_FIRST, "writers give 3 before 12", \
+      "cerberus_region_write cerberus_rw_region_write cerberus_signed_image_write cerberus_root_cas_write") \
+    F(REFUSES_ALL, "everything is refused", \
+      "cerberus_log_record cerberus_log_replay cerberus_slot_activate cerberus_command cerberus_signed_image_read") \
+    F(ONE_REGISTER, "every register reads as the same 32 bytes", "cerberus_log_register") \
+    F(NOTHING_WRITTEN, "record says yes and writes nothing", "cerberus_log_record") \
+    F(FIRST_ONLY, "the first entry is written, later ones only counted", "cerberus_log_record") \
+    F(REPLAY_COPIES, "replay takes any text of a permitted length", "cerberus_log_replay") \
+    F(LATER_BYTES, "bytes behind the log aren't looked at", \
+      "cerberus_log_record cerberus_log_register cerberus_log_read_out cerberus_log_read_out_verdict") \
+    F(COUNT_32_BITS, "the count is taken modulo 2^32", \
+      "cerberus_log_record cerberus_log_register cerberus_log_read_out cerberus_log_read_out_verdict") \
+    F(RANGE_BEFORE_STATE, "5 comes before 4", "cerberus_log_record cerberus_log_register") \
+    F(TEXT_BEFORE_LENGTH, "replay gives 4 for a length that isn't permitted", "cerberus_log_replay") \
+    F(EVENT_TYPE_16_BITS, "two bytes of the event type are lost", "cerberus_log_record cerberus_log_replay") \
+    F(ANSWER_CLEARED, "a refused register read clears its answer", "cerberus_log_register") \
+    F(RESET_KEEPS_COUNT, "reset leaves the count", "cerberus_log_reset") \
+    F(PAST_BUFFER, "the byte behind the buffer is written", "cerberus_log_reset cerberus_slot_open") \
+    F(PADDING, "the padding is wrong where the length just fits", "cerberus_sha256") \
+    F(OPEN_KEEPS, "opening leaves the active buffer", "cerberus_slot_open") \
+    F(IDLE_NUMBERS, "an idle state may have a total", \
+      "cerberus_slot_prepare cerberus_slot_update cerberus_slot_activate cerberus_slot_manifest cerberus_command") \
+    F(STATE_BEFORE_BUFFER, "4 comes before 3", \
+      "cerberus_slot_prepare cerberus_slot_update cerberus_slot_activate cerberus_slot_manifest cerberus_command") \
+    F(TOTAL_12, "a total of 12 passes", "cerberus_slot_prepare cerberus_command") \
+    F(PREPARE_CLEARS, "prepare clears the pending buffer", "cerberus_slot_prepare cerberus_command") \
+    F(STEP_BEFORE_LENGTH, "an empty update while idle is 6", "cerberus_slot_update cerberus_command") \
+    F(TO_THE_FRONT, "an update's bytes go to the front", "cerberus_slot_update cerberus_command") \
+    F(RECEIVED_INVENTED, "every update completes the transfer", "cerberus_slot_update cerberus_command") \
+    F(UPDATE_OVERFLOW, "received plus length is taken modulo 2^64", "cerberus_slot_update") \
+    F(ACTIVE_TAIL, "activate leaves old bytes behind the manifest", "cerberus_slot_activate cerberus_command") \
+    F(FULL_SIGNATURE, "a signature that fills all behind the header is 8", "cerberus_slot_activate cerberus_command") \
+    F(ANY_YES, "any number but 0 is taken as a good signature", "cerberus_slot_activate cerberus_command") \
+    F(FIRST_ID_0, "without an active manifest an id of 0 is 9", "cerberus_slot_activate cerberus_command") \
+    F(SIGNATURE_FIRST, "10 comes before 9", "cerberus_slot_activate cerberus_command") \
+    F(VERSION_FIRST, "9 comes before 8", "cerberus_slot_activate cerberus_command") \
+    F(STILL_RECEIVING, "after activate the slot isn't idle", "cerberus_slot_activate cerberus_command") \
+    F(OTHER_ROLE, "any role but 0 is taken as pending", "cerberus_slot_manifest") \
+    F(PENDING_TOTAL, "the pending manifest has its total's length", "cerberus_slot_manifest") \
+    F(OFFERED_FIRST, "11 comes before 1", "cerberus_header cerberus_command") \
+    F(ANY_COMMAND, "a fifth command is offered", "cerberus_header cerberus_command") \
+    F(HEADER_BEFORE_STATE, "1 comes before 4", "cerberus_command") \
+    F(RESPONSE_TAIL, "bytes behind the response are cleared", "cerberus_command") \
+    F(RESPONSE_FOR_GET, "the response buffer is judged for Get PCD Id alone", "cerberus_command") \
+    F(ID_HIGH_FIRST, "the version id is answered high byte first", "cerberus_command") \
+    F(PLATFORM_ID, "the platform id is 5", "cerberus_command") \
+    F(LONG_PLATFORM_ID, "a longer body that begins with 01 is 11", "cerberus_command") \
+    F(WRITTEN_CLEARED, "a refused command sets its response's length to 0", "cerberus_command") \
+    F(LONGER_ELEMENT, "an element may be longer than its fields", \
+      "cerberus_region_read cerberus_rw_region_read cerberus_signed_image_read cerberus_root_cas_read") \
+    F(RESERVED_OPERATION, "operation 3 is malformed", "cerberus_rw_region_read cerberus_rw_region_write") \
+    F(RESERVED_BYTES, "reserved bytes aren't looked at", \
+      "cerberus_rw_region_read cerberus_signed_image_read cerberus_root_cas_read") \
+    F(VALIDATE_BITS, "the bits beside must-validate aren't looked at", \
+      "cerberus_signed_image_read cerberus_signed_image_region") \
+    F(LAST_REGION, "a signed image's last region isn't judged", \
+      "cerberus_signed_image_read cerberus_signed_image_write") \
+    F(HASH_TYPE_3, "hash type 3 is taken as 64 bytes", \
+      "cerberus_signed_image_read cerberus_signed_image_write cerberus_root_cas_read cerberus_root_cas_write") \
+    F(COUNT_WRAPS, "a count above 255 wraps", "cerberus_signed_image_write cerberus_root_cas_write") \
+    F(NO_PARTS, "a count of 0 passes", \
+      "cerberus_signed_image_read cerberus_signed_image_write cerberus_root_cas_read cerberus_root_cas_write") \
+    F(INDEX_8_BITS, "an index is taken modulo 256", "cerberus_signed_image_region cerberus_root_cas_hash") \
+    F(PRODUCT_OVERFLOW, "an index times a length is taken modulo 2^64", \
+      "cerberus_signed_image_region cerberus_root_cas_hash") \
+    F(SMALL_ROOM, "a text of 79 bytes is enough", "cerberus_meaning") \
+    F(OTHER_MEANING, "a number above 12 has a meaning", "cerberus_meaning")
