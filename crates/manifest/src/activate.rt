@@ -70,9 +70,13 @@ impl Slot {
         ensures { λ r. ⌜ numberOf r ≡ activateNumber self «signature_good» (now (pending .entry)) (now (active .entry)) ⌝ }
     {
         let lent = self.lent_verdict(pending, active);
+        // A buffer of another length isn't read.
+        let Verdict::Accepted = lent else {
+            return lent;
+        };
         let manifest = self.pending_verdict(pending);
         let signature = signature_verdict(signature_good);
-        first(lent, first(manifest, signature))
+        first(manifest, signature)
     }
 
     // The slot whose active manifest is the pending one.
