@@ -1,4 +1,7 @@
+-- What the functions' proofs cite; then the laws of specs/Laws.antt.
 pub mod Answers
 pub mod States
-pub mod Indices
 pub mod Outcomes
+pub mod Indices
+pub mod Meanings
+pub mod Parts

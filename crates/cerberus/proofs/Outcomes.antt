@@ -37,7 +37,7 @@ register-shown pmr count buffer e =
     accepted-yes (registerStep pmr count buffer .bytes) freshRegister (sym (register-number pmr count buffer) ∙ e)
 
 -- a read-out has its companion's number, and the length of all entries
-read-out-check : (count : ℕ) (buffer : List ℕ) → readOutStep count buffer .number ≡ checkNumber count buffer
+pub read-out-check : (count : ℕ) (buffer : List ℕ) → readOutStep count buffer .number ≡ checkNumber count buffer
 unfolding readOutStep
 read-out-check count buffer = decided-number _ count buffer _ refl
 

@@ -1,25 +1,26 @@
 -- The integers in which C keeps a slot (include/cerberus.h, cerberus_slot): magic, active length, active id, receiving, total, received.
 use Prim.Native.Nat.{ℕ}
-use mathlib.Core.Bool.{Bool, true, false, not, _&&_, cond}
+use mathlib.Core.Bool.{Bool, not, _&&_, cond}
 use mathlib.Core.List.{List, [], _∷_}
 use lib.ListN.{getD}
 use lib.Dec.{ltb, eqb}
 use Rattle.refusal.specs.Rules.{any}
-use Rattle.manifest.specs.declared.VersionId.{VersionId}
-use Rattle.manifest.specs.declared.Active.{Active}
 use Rattle.manifest.specs.declared.Transfer.{Transfer}
 use Rattle.manifest.specs.declared.Transfer.the-variants.{Idle, Receiving}
 use Rattle.manifest.specs.declared.Slot.{Slot}
 
--- integers that no slot has, whatever its numbers: a magic of more than 16 bits, an id of more than 32, a flag above 1, idle with a total or bytes received
-abbrev pub noSlot : List ℕ → Bool
-noSlot n =
-    any (
+-- integers that no slot has, whatever its numbers: a magic of more than 16 bits, an id of more than 32, a flag above 1, idle with a total or bytes
+-- received
+abbrev pub slotFaults : List ℕ → List Bool
+slotFaults n =
     ltb 0xffff (getD n 0 0)
     ∷ ltb 0xffffffff (getD n 2 0)
     ∷ ltb 1 (getD n 3 0)
     ∷ (eqb (getD n 3 0) 0 && not (eqb (getD n 4 0) 0 && eqb (getD n 5 0) 0))
-    ∷ [])
+    ∷ []
+
+abbrev pub noSlot : List ℕ → Bool
+noSlot n = any (slotFaults n)
 
 abbrev pub transferOf : List ℕ → Transfer
 transferOf n = cond (eqb (getD n 3 0) 0) Idle (Receiving (getD n 4 0) (getD n 5 0))

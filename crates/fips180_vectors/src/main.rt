@@ -1,0 +1,301 @@
+// Runs `sha256` on vectors whose digests come from outside, and compares.
+//
+// The digests of the empty message, of "abc", of the messages of 448 and 896 bits and of a million times "a" are those that NIST publishes for
+// FIPS 180-4 (its examples, and its example algorithms' long message). Those of the pattern, whose byte i is i, are from the implementation
+// in Python's hashlib, at the lengths around each change in the number of padded blocks.
+use libc::STDOUT_FILENO;
+ghost use mathlib.Core.Path.{_≡_};
+ghost use lib.ListN.{length};
+
+// How many vectors were run, and how many of them differ.
+struct Tally {
+    run: u64,
+    differ: u64,
+}
+
+fn put(text: &[u8]) {
+    io::write_all(STDOUT_FILENO, text);
+}
+
+fn digit(n: u8) -> u8 {
+    let k = n % 16;
+    if k < 10 { b'0' + k } else { b'a' + (k - 10) }
+}
+
+// A digest in hexadecimal.
+fn hex(digest: [u8; 32]) -> [u8; 64] {
+    let mut out = [0u8; 64];
+    let mut i: usize = 0;
+    while i < 32 {
+        let b = digest[i];
+        out[2 * i] = digit(b / 16);
+        out[2 * i + 1] = digit(b);
+        i += 1;
+    }
+    out
+}
+
+// Hashes a message and writes whether the digest is the expected one, or which other it is.
+fn compare(tally: Tally, message: &[u8], expected: &[u8; 64]) -> Tally {
+    let hashed = sha256::sha256(message);
+    let digest = hashed.digest;
+    let text = hex(digest);
+    let run = std::num::wrapping_add_u64(tally.run, 1);
+    if check::same(&text, expected) {
+        put(b": ok\n");
+        return Tally {
+            run: run,
+            differ: tally.differ,
+        };
+    }
+    put(b": ");
+    put(&text);
+    put(b"\n");
+    Tally {
+        run: run,
+        differ: std::num::wrapping_add_u64(tally.differ, 1),
+    }
+}
+
+fn vector(tally: Tally, name: &[u8], message: &[u8], expected: &[u8; 64]) -> Tally {
+    put(name);
+    compare(tally, message, expected)
+}
+
+fn published(tally: Tally) -> Tally {
+    let t1 = vector(
+        tally,
+        b"empty message",
+        b"",
+        b"e3b0c44298fc1c149afbf4c8996fb92427ae41e4649b934ca495991b7852b855",
+    );
+    let t2 = vector(
+        t1,
+        b"abc",
+        b"abc",
+        b"ba7816bf8f01cfea414140de5dae2223b00361a396177a9cb410ff61f20015ad",
+    );
+    let t3 = vector(
+        t2,
+        b"448 bits",
+        b"abcdbcdecdefdefgefghfghighijhijkijkljklmklmnlmnomnopnopq",
+        b"248d6a61d20638b8e5c026930c3e6039a33ce45964ff2167f6ecedd419db06c1",
+    );
+    vector(
+        t3,
+        b"896 bits",
+        b"abcdefghbcdefghicdefghijdefghijkefghijklfghijklmghijklmnhijklmnoijklmnopjklmnopqklmnopqrlmnopqrsmnopqrstnopqrstu",
+        b"cf5b16a778af8380036ce59e7b0492370b249b11e8f07a51afac45037afee9d1",
+    )
+}
+
+fn million_a() -> [u8; 1000000]
+    ensures { λ r. ⌜ 1000000 ≡ length r ⌝ }
+{
+    [b'a'; 1000000]
+}
+
+fn million(tally: Tally) -> Tally {
+    let message = million_a();
+    vector(
+        tally,
+        b"a million a",
+        &message,
+        b"cdc76e5c9914fb9281a1c7e284d73e67f1809a48a497200e046d39ccc7112cd0",
+    )
+}
+
+// The first n bytes of the pattern, all of it where n is more.
+fn pattern(tally: Tally, m: &[u8], n: usize, expected: &[u8; 64]) -> Tally {
+    put(b"pattern of ");
+    io::print_decimal(STDOUT_FILENO, n as u64);
+    put(b" bytes");
+    if n < m.len() {
+        return compare(tally, &m[0..n], expected);
+    }
+    compare(tally, m, expected)
+}
+
+fn one_block(tally: Tally, m: &[u8]) -> Tally {
+    let t1 = pattern(
+        tally,
+        m,
+        1,
+        b"6e340b9cffb37a989ca544e6bb780a2c78901d3fb33738768511a30617afa01d",
+    );
+    let t2 = pattern(
+        t1,
+        m,
+        55,
+        b"463eb28e72f82e0a96c0a4cc53690c571281131f672aa229e0d45ae59b598b59",
+    );
+    let t3 = pattern(
+        t2,
+        m,
+        56,
+        b"da2ae4d6b36748f2a318f23e7ab1dfdf45acdc9d049bd80e59de82a60895f562",
+    );
+    let t4 = pattern(
+        t3,
+        m,
+        57,
+        b"2fe741af801cc238602ac0ec6a7b0c3a8a87c7fc7d7f02a3fe03d1c12eac4d8f",
+    );
+    let t5 = pattern(
+        t4,
+        m,
+        63,
+        b"29af2686fd53374a36b0846694cc342177e428d1647515f078784d69cdb9e488",
+    );
+    pattern(
+        t5,
+        m,
+        64,
+        b"fdeab9acf3710362bd2658cdc9a29e8f9c757fcf9811603a8c447cd1d9151108",
+    )
+}
+
+fn two_blocks(tally: Tally, m: &[u8]) -> Tally {
+    let t1 = pattern(
+        tally,
+        m,
+        65,
+        b"4bfd2c8b6f1eec7a2afeb48b934ee4b2694182027e6d0fc075074f2fabb31781",
+    );
+    let t2 = pattern(
+        t1,
+        m,
+        119,
+        b"da18797ed7c3a777f0847f429724a2d8cd5138e6ed2895c3fa1a6d39d18f7ec6",
+    );
+    let t3 = pattern(
+        t2,
+        m,
+        120,
+        b"f52b23db1fbb6ded89ef42a23ce0c8922c45f25c50b568a93bf1c075420bbb7c",
+    );
+    let t4 = pattern(
+        t3,
+        m,
+        121,
+        b"335a461692b30bba1d647cc71604e88e676c90e4c22455d0b8c83f4bd7c8ac9b",
+    );
+    let t5 = pattern(
+        t4,
+        m,
+        127,
+        b"92ca0fa6651ee2f97b884b7246a562fa71250fedefe5ebf270d31c546bfea976",
+    );
+    pattern(
+        t5,
+        m,
+        128,
+        b"471fb943aa23c511f6f72f8d1652d9c880cfa392ad80503120547703e56a2be5",
+    )
+}
+
+fn three_blocks(tally: Tally, m: &[u8]) -> Tally {
+    let t1 = pattern(
+        tally,
+        m,
+        129,
+        b"5099c6a56203f9687f7d33f4bfdf576d31dc91f6b695ecea38b2770c87631135",
+    );
+    let t2 = pattern(
+        t1,
+        m,
+        183,
+        b"b1459345163aed1c356302a5230f8912564b04f340610b18ef1aa2c47b418981",
+    );
+    let t3 = pattern(
+        t2,
+        m,
+        184,
+        b"82f63a1d007fd9796756abbbf51c246884dde3d79cf9cacacc901462ae75e3ff",
+    );
+    let t4 = pattern(
+        t3,
+        m,
+        185,
+        b"78d8ce1ccd46cf92fb4e255f183bc9f355e5e494b3180c0da9154e17a1d61f74",
+    );
+    let t5 = pattern(
+        t4,
+        m,
+        191,
+        b"d280f473c251cb75c91880ea0eca2a2f1cda3152bef54a38c4a3aedad615c819",
+    );
+    pattern(
+        t5,
+        m,
+        192,
+        b"8b4a544837a1a0280fa8a7c82865c27a1064b3cc6281fda0753566b9bb104a87",
+    )
+}
+
+fn four_blocks(tally: Tally, m: &[u8]) -> Tally {
+    let t1 = pattern(
+        tally,
+        m,
+        193,
+        b"7daafa7aed7d63d06a98b7b6f785eab5427d084f30d5c9ee6dd0d2f3ada329e6",
+    );
+    let t2 = pattern(
+        t1,
+        m,
+        247,
+        b"4b96ec3b91e9f764ac0227ca7df451bd8294cd46298047b43b960ae1c0b0afc5",
+    );
+    let t3 = pattern(
+        t2,
+        m,
+        248,
+        b"c6fefe1bfbe6f5364bf0e40447ffca27fde55f1cd815e1fa3bafb46a41c91749",
+    );
+    let t4 = pattern(
+        t3,
+        m,
+        249,
+        b"552a69d052ae2980aa92ef44b4a8752fc585d70127d9df1ac53137e266786e4d",
+    );
+    let t5 = pattern(
+        t4,
+        m,
+        255,
+        b"3f8591112c6bbe5c963965954e293108b7208ed2af893e500d859368c654eabe",
+    );
+    pattern(
+        t5,
+        m,
+        256,
+        b"40aff2e9d2d8922e47afd4648e6967497158785fbd1da870e7110266bf944880",
+    )
+}
+
+fn counting_bytes() -> [u8; 256] {
+    let mut m = [0u8; 256];
+    let mut i: usize = 0;
+    while i < 256 {
+        m[i] = i as u8;
+        i += 1;
+    }
+    m
+}
+
+fn boundaries(tally: Tally) -> Tally {
+    let m = counting_bytes();
+    let t1 = one_block(tally, &m);
+    let t2 = two_blocks(t1, &m);
+    let t3 = three_blocks(t2, &m);
+    four_blocks(t3, &m)
+}
+
+fn main() {
+    let t1 = published(Tally { run: 0, differ: 0 });
+    let t2 = million(t1);
+    let t3 = boundaries(t2);
+    io::print_decimal(STDOUT_FILENO, t3.run);
+    put(b" vectors, ");
+    io::print_decimal(STDOUT_FILENO, t3.differ);
+    put(b" differ\n");
+}
