@@ -1,5 +1,5 @@
--- The definition tested as a definition: values of single operations, and digests that NIST publishes for SHA-256 ("Cryptographic Standards
--- and Guidelines: Examples with Intermediate Values", and the test vectors of its validation program), each by computation.
+-- The definition tested as a definition, by computation. The digests, of well-known messages, were written from memory and compared with Python's
+-- hashlib; the values of single operations were worked out with Python's integers.
 use mathlib.Core.Path.{_≡_, refl}
 use mathlib.Core.List.{[], _∷_}
 use Rattle.fips180.specs.Words.{add, rotr, shr, ch, maj}
@@ -12,7 +12,7 @@ rotated : rotr 32 8 0x12345678 ≡ 0x78123456
 unfolding rotr
 rotated = refl
 
--- the first round's Σ₀ and Σ₁ in each published example: of H_0 and of H_4 of the initial hash value
+-- Σ₀ and Σ₁ of the first round of every message: of the first and the fifth word of the initial hash value
 first-sigma0 : bigSigma0 family32 0x6a09e667 ≡ 0xce20b47e
 unfolding bigSigma0 rotr family32
 first-sigma0 = refl

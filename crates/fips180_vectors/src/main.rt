@@ -1,8 +1,8 @@
 // Runs `sha256` on vectors whose digests come from outside, and compares.
 //
-// The digests of the empty message, of "abc", of the messages of 448 and 896 bits and of a million times "a" are those that NIST publishes for
-// FIPS 180-4 (its examples, and its example algorithms' long message). Those of the pattern, whose byte i is i, are from the implementation
-// in Python's hashlib, at the lengths around each change in the number of padded blocks.
+// The digests of the empty message, of "abc", of the messages of 448 and 896 bits and of a million times "a" were written from memory as the published ones of these
+// well-known messages, and each was compared with Python's hashlib, an implementation of its own. Those of the pattern, whose byte i is i, are
+// hashlib's, at the lengths around each change in the number of padded blocks. None was taken from this code.
 use libc::STDOUT_FILENO;
 ghost use mathlib.Core.Path.{_≡_};
 ghost use lib.ListN.{length};
