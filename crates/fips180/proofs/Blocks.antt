@@ -1,12 +1,13 @@
 -- How many blocks a padded message is, and the hash value after one more of them, for any family.
-use Prim.Native.Nat.{ℕ, suc, _+_, _-_, _*_, _/_, _%_, _<_}
+use Prim.Native.Nat.{ℕ, suc, _+_, _-_, _*_, _/_, _%_, _<_, _≤_}
 use mathlib.Core.Path.{_≡_, sym, ap, _∙_}
 use mathlib.Core.Logic.{⊎-elim}
 use mathlib.Core.List.{List}
 use native.Mathlib.Nat.{eq-or-lt-of-le, mod-lt, mod-eq-of-lt, mod-self, div-add-mod', mul-add-mod-self-right, mul-mod-left, suc-mul, mul-comm, mul-le-mul-right, lt-of-mul-lt-mul-left}
 use native.Mathlib.Numerals.{add-one}
 use native.Mathlib.Omega.{arith}
-use lib.ListN.{length}
+use lib.ListN.{length, drop, length-drop}
+use lib.Seq.{length-take-le}
 use Rattle.fips180.specs.Family.{Family, blockBytes, lengthBytes}
 use Rattle.fips180.specs.Padding.{pad, block, zeroCount}
 use Rattle.fips180.specs.Hash.{compress, hashValue}
@@ -82,7 +83,11 @@ pub hashValue-more : (f : Family) (h p b s t : List ℕ) (i : ℕ) → s ≡ has
 unfolding hashValue
 hashValue-more f h p b s t i e g c = c ∙ (λ k. compress f (g k) (e k)) ∙ ap (hashValue f h p) (sym (add-one i))
 
--- the same for the family of SHA-256, in its own numbers
+pub length-block : (f : Family) (p : List ℕ) (i : ℕ) → i * blockBytes f + blockBytes f ≤ length p → length (block f p i) ≡ blockBytes f
+unfolding block
+length-block f p i h = let l = length-drop (i * blockBytes f) p in length-take-le (blockBytes f) (drop (i * blockBytes f) p) (omega arith)
+
+-- the number of blocks for the family of SHA-256, in its own numbers
 pub block-count32 : (m : List ℕ) → ((length m + 8) / 64 + 1) * 64 ≡ length (pad family32 m)
 unfolding blockBytes lengthBytes family32
 block-count32 m = block-count family32 (omega arith) m

@@ -6,8 +6,8 @@ use mathlib.Core.Logic.{⊎-elim}
 use mathlib.Core.List.{List}
 use native.Mathlib.Nat.{eq-or-lt-of-le}
 use native.Mathlib.Omega.{arith}
-use lib.ListN.{length, getD, set, length-set}
-use lib.Seq.{getD-set-same, getD-set-other}
+use lib.ListN.{length, getD, set, take, drop, length-set}
+use lib.Seq.{getD-set-same, getD-set-other, getD-take, getD-drop}
 use Rattle.fips180.specs.Family.{Family, smallSigma0, smallSigma1}
 use Rattle.fips180.specs.Padding.{wordsOf}
 use Rattle.fips180.specs.Hash.{plus, nextWord, schedule, round, afterRounds, sums, compress}
@@ -111,34 +111,58 @@ module _ (f : Family) where
 
   -- ---- the steps, as code takes them
 
-  -- one word of the queue
-  pub advanced-none : (q : List ℕ) → q ≡ advanced f 0 q
-  unfolding advanced
-  advanced-none q = refl
+  -- one round, where ks are the constants of the sixteen rounds from round t on
+  constant-is : (ks : List ℕ) (t i : ℕ) → i < 16 → ks ≡ take 16 (drop t (f .constants)) → getD ks i 0 ≡ getD (f .constants) (t + i) 0
+  constant-is ks t i h e =
+      ap (λ (l : List ℕ). getD l i 0) e ∙ getD-take 16 (drop t (f .constants)) i 0 h ∙ getD-drop t (f .constants) i 0
 
-  pub advanced-more : {x : ℕ} {r : List ℕ} (q : List ℕ) (i : ℕ) → x ≡ queueWord f i r → r ≡ advanced f i q → set r i x ≡ advanced f (suc i) q
-  unfolding advanced
-  advanced-more {r = r} q i e p = ap (set r i) e ∙ ap (λ (y : List ℕ). set y i (queueWord f i y)) p
-
-  -- one round, where ks are the family's constants
   pub rounds-none : (ws s : List ℕ) (t : ℕ) → s ≡ roundsFrom f t ws s 0
   unfolding roundsFrom
   rounds-none ws s t = refl
 
-  pub rounds-more : {x r : List ℕ} (ks ws s : List ℕ) (t i : ℕ) → ks ≡ f .constants → x ≡ round f (getD ks (t + i) 0) (getD ws i 0) r
-      → r ≡ roundsFrom f t ws s i → x ≡ roundsFrom f t ws s (suc i)
+  pub rounds-more : {x r : List ℕ} (ks ws s : List ℕ) (t i : ℕ) → i < 16 → ks ≡ take 16 (drop t (f .constants))
+      → x ≡ round f (getD ks i 0) (getD ws i 0) r → r ≡ roundsFrom f t ws s i → x ≡ roundsFrom f t ws s (suc i)
   unfolding roundsFrom
-  rounds-more ks ws s t i k e p = e ∙ (λ j. round f (getD (k j) (t + i) 0) (getD ws i 0) (p j))
+  rounds-more ks ws s t i h k e p = e ∙ (λ j. round f (constant-is ks t i h k j) (getD ws i 0) (p j))
+
+  -- one word of the queue and its round: the queue and the working variables after i of sixteen rounds from round t on, from q and s
+  pub record Reached (t : ℕ) (q s : List ℕ) (i : ℕ) (w r : List ℕ) : Type 0 where
+    pub queue : w ≡ advanced f i q
+    pub state : r ≡ roundsFrom f t (advanced f 16 q) s i
+
+  -- word i, once it is replaced, stays
+  advanced-word : (i n : ℕ) (q : List ℕ) → i < n → getD (advanced f n q) i 0 ≡ getD (advanced f (suc i) q) i 0
+  unfolding advanced
+  advanced-word i zero q h = absurd (omega arith)
+  advanced-word i (suc n) q h =
+      ⊎-elim (λ (e : i ≡ n). ap (λ (k : ℕ). getD (advanced f (suc k) q) i 0) (sym e))
+      (λ (l : i < n). getD-set-other (advanced f n q) n i (queueWord f n (advanced f n q)) 0 (λ e. omega arith) ∙ advanced-word i n q l)
+      (eq-or-lt-of-le (omega arith))
+
+  pub reached-none : (t : ℕ) (q s : List ℕ) → Reached t q s 0 q s
+  unfolding advanced roundsFrom
+  reached-none t q s = record { queue = refl; state = refl }
+
+  pub reached-more : {w r v x : List ℕ} (ks q s : List ℕ) (t i : ℕ) → i < 16 → ks ≡ take 16 (drop t (f .constants))
+      → v ≡ set w i (queueWord f i w) → x ≡ round f (getD ks i 0) (getD v i 0) r → Reached t q s i w r → Reached t q s (suc i) v x
+  unfolding advanced
+  reached-more {r = r} ks q s t i h k d e p =
+      let a = d ∙ ap (λ (y : List ℕ). set y i (queueWord f i y)) (p .queue) in
+      let b = ap (λ (y : List ℕ). getD y i 0) a ∙ sym (advanced-word i 16 q h) in
+      record {
+        queue = a;
+        state = rounds-more ks (advanced f 16 q) s t i h k (e ∙ ap (λ (y : ℕ). round f (getD ks i 0) y r) b) (p .state);
+      }
 
   -- one group
   pub groups-none : (b s : List ℕ) → s ≡ afterGroups f b s 0
   unfolding afterGroups
   groups-none b s = refl
 
-  pub group-more : {w r x : List ℕ} (b s : List ℕ) (g : ℕ) → w ≡ groupWords f b g → r ≡ afterGroups f b s g → x ≡ roundsFrom f (16 * g) w r 16
-      → x ≡ afterGroups f b s (suc g)
+  pub group-more : {w r x : List ℕ} (b s : List ℕ) (g : ℕ) {t : ℕ} → t ≡ 16 * g → w ≡ groupWords f b g → r ≡ afterGroups f b s g
+      → x ≡ roundsFrom f t w r 16 → x ≡ afterGroups f b s (suc g)
   unfolding afterGroups
-  group-more b s g p e q = q ∙ (λ i. roundsFrom f (16 * g) (p i) (e i) 16)
+  group-more b s g l p e q = q ∙ (λ i. roundsFrom f (l i) (p i) (e i) 16)
 
   pub queue-none : {w : List ℕ} (b : List ℕ) → w ≡ wordsOf f 16 b → w ≡ groupWords f b 0
   unfolding groupWords

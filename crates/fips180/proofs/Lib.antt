@@ -1,5 +1,7 @@
 pub mod Lists
+pub mod Bits
 pub mod Words
+pub mod Rotations
 pub mod Bytes
 pub mod Padding
 pub mod Blocks

@@ -7,6 +7,7 @@ ghost use lib.ListN.{length, getD};
 ghost use Rattle.fips180.specs.Padding.{bigEndian, pad, «block»};
 ghost use Rattle.fips180.specs.Hash.{hashValue, hash, wordBytesOf};
 ghost use Rattle.fips180.specs.Sha256.{family32, sha256};
+ghost use Rattle.sha256.specs.Contracts.{NextPlace};
 
 // How many blocks the padded message has.
 fn block_count(m: &[u8]) -> usize
@@ -44,24 +45,38 @@ fn byte_at(m: &[u8], i: usize) -> u8
     length_byte(n, i - end)
 }
 
-// Block i of the padded message, which need not lie in the message.
-fn padded_block(m: &[u8], i: usize) -> [u8; 64]
-    requires { ⌜ (length (now m) < 2 ^ 61) × ((i + 1) * 64 ≤ length (pad family32 (now m))) ⌝ }
-    ensures { λ r. ⌜ r ≡ «block» family32 (pad family32 (now (m .entry))) i ⌝ }
+// The place after place j of a block where the next byte that may not be 0 stands: past the message of n bytes come zeros, up to the length. Byte
+// j of the block is byte at of the padded message.
+fn next_place(n: usize, at: usize, j: usize) -> usize
+    requires { ⌜ j < 64 ⌝ }
+    ensures { λ r. ⌜ NextPlace n at j r ⌝ }
 {
-    let mut out = [0u8; 64];
+    if at < n {
+        return j + 1;
+    }
+    if j < 55 {
+        return 56;
+    }
+    j + 1
+}
+
+// Puts block i of the padded message, which need not lie in the message, in out.
+fn put_block(m: &[u8], i: usize, out: &mut [u8; 64])
+    requires { ⌜ (length (now m) < 2 ^ 61) × ((i + 1) * 64 ≤ length (pad family32 (now m))) ⌝ }
+    ensures { λ _. ⌜ now (out .exit) ≡ «block» family32 (pad family32 (now (m .entry))) i ⌝ }
+{
+    *out = [0u8; 64];
     let base = i * 64;
     let mut j = 0;
     while j < 64 {
-        out[j] = byte_at(m, base + j);
-        j += 1;
+        let at = base + j;
+        out[j] = byte_at(m, at);
+        j = next_place(m.len(), at, j);
     }
-    out
 }
 
 // The hash value after the blocks that lie in the message itself: they are read where they are.
-fn whole_blocks(h: [u32; 8], k: &[u32; 64], m: &[u8]) -> [u32; 8]
-    requires { ⌜ now k ≡ family32 .constants ⌝ }
+fn whole_blocks(h: [u32; 8], m: &[u8]) -> [u32; 8]
     ensures { λ r. ⌜ r ≡ hashValue family32 h (pad family32 (now (m .entry))) (length (now (m .entry)) / 64) ⌝ }
 {
     let mut s = h;
@@ -70,25 +85,24 @@ fn whole_blocks(h: [u32; 8], k: &[u32; 64], m: &[u8]) -> [u32; 8]
     while i < full {
         let a = i * 64;
         let e = a + 64;
-        let t = block::compress(s, k, &m[a..e]);
-        s = t;
+        block::update(&mut s, &m[a..e]);
         i += 1;
     }
     s
 }
 
-// The hash value of the whole message, from h: of the last blocks, one or two, copies are made.
-fn hash_value(h: [u32; 8], k: &[u32; 64], m: &[u8]) -> [u32; 8]
-    requires { ⌜ (now k ≡ family32 .constants) × (length (now m) < 2 ^ 61) ⌝ }
+// The hash value of the whole message, from h: the last blocks, one or two, are put together.
+fn hash_value(h: [u32; 8], m: &[u8]) -> [u32; 8]
+    requires { ⌜ length (now m) < 2 ^ 61 ⌝ }
     ensures { λ r. ⌜ r ≡ hash family32 h (now (m .entry)) ⌝ }
 {
-    let mut s = whole_blocks(h, k, m);
+    let mut s = whole_blocks(h, m);
     let mut i = m.len() / 64;
     let n = block_count(m);
+    let mut b = [0u8; 64];
     while i < n {
-        let b = padded_block(m, i);
-        let t = block::compress(s, k, &b);
-        s = t;
+        put_block(m, i, &mut b);
+        block::update(&mut s, &b);
         i += 1;
     }
     s
@@ -119,7 +133,6 @@ pub(crate) fn digest(m: &[u8]) -> [u8; 32]
     requires { ⌜ length (now m) < 2 ^ 61 ⌝ }
     ensures { λ r. ⌜ r ≡ sha256 (now (m .entry)) ⌝ }
 {
-    let k = constants::round_constants();
     let h = constants::initial_hash_value();
-    bytes(hash_value(h, &k, m))
+    bytes(hash_value(h, m))
 }

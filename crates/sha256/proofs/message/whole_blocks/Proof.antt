@@ -14,10 +14,10 @@ use Rattle.sha256.proofs.message.whole_blocks.Statement.{statement}
 use Rattle.sha256.proofs.message.whole_blocks.Tie as tie
 
 abbrev Inv-loop : tie.InvT-loop
-Inv-loop k m s₀ full i₀ s i = (i ≤ full) × (s ≡ hashValue family32 s₀ (pad family32 m) i)
+Inv-loop m s₀ full i₀ s i = (i ≤ full) × (s ≡ hashValue family32 s₀ (pad family32 m) i)
 
 abbrev μ-loop : tie.MeasureT-loop
-μ-loop k m s₀ full i₀ s i = full - i
+μ-loop m s₀ full i₀ s i = full - i
 
 loop-holds : tie.Need-loop-holds Inv-loop μ-loop
 unfolding hashValue
@@ -26,12 +26,12 @@ loop-holds c = search needs
 loop-again : tie.Need-loop-again Inv-loop μ-loop
 unfolding blockBytes family32
 loop-again c =
-    let at = c .before .before .before .loop in
-    let m : List ℕ = c .before .before .before .before .before .args .m .now in
+    let at = c .before .before .before .before .loop in
+    let m : List ℕ = c .before .before .before .before .before .before .args .m .now in
     let n : at .i * 64 + 64 - at .i * 64 ≡ 64 = omega arith in (
       omega arith,
-      hashValue-more family32 _ (pad family32 m) _ (at .s) (c .compress .result) (at .i) (at .inv .1)
-          (ap (λ (k : ℕ). take k (drop (at .i * 64) m)) n ∙ sym (pad-block family32 m (at .i) (omega arith))) (c .compress .ensures),
+      hashValue-more family32 _ (pad family32 m) _ (at .s) _ (at .i) (at .inv .1)
+          (ap (λ (k : ℕ). take k (drop (at .i * 64) m)) n ∙ sym (pad-block family32 m (at .i) (omega arith))) (c .update .ensures),
     )
 
 returns : tie.Need-returns Inv-loop μ-loop
