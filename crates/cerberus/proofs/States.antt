@@ -9,8 +9,7 @@ use lib.Dec.{ltb, eqb}
 use borrow.Author.Tests.{ltb-false, le-ltb, eqb-true, eqb-false, not-false}
 use Rattle.refusal.specs.Rules.{_when_else_}
 use Rattle.refusal.proofs.Laws.{when-accepted, when-yes, when-no}
-use Rattle.refusal.proofs.Tests.{and-yes}
-use Rattle.elements.proofs.Tests.{any-no, no-any}
+use Rattle.refusal.proofs.Tests.{and-yes, any-no, no-any}
 use Rattle.manifest.specs.declared.Slot.{Slot}
 use Rattle.manifest.specs.declared.Transfer.{Transfer}
 use Rattle.manifest.specs.declared.Transfer.the-variants.{Idle, Receiving}

@@ -14,7 +14,7 @@ use Rattle.refusal.proofs.Laws.{accepted-yes}
 use Rattle.elements.specs.Parts.{writeNumber, itemCount, hashWidth}
 use Rattle.elements.specs.Region.{regionLength, regionsUnsound}
 use Rattle.elements.specs.SignedImage.{imageHeadLength, imageLength, hashTypeOf, regionCountOf, mustValidateOf, hashOf, regionsOf, imageFaults, imageNumber, imageFields, imageHash, imageRegions, imageFieldFaults, imageFieldsMalformed, imageBytes, imageWriteNumber, imageWritten}
-use Rattle.elements.proofs.Tests.{any-no, no-any, equal-no, no-equal}
+use Rattle.refusal.proofs.Tests.{any-no, no-any, equal-no, no-equal}
 use Rattle.elements.proofs.Verdicts.{read-yes, read-accepted, write-yes, write-accepted, length-if-sound}
 use Rattle.elements.proofs.Items.{GoodItems, good-items, items-good, items-of, counted}
 use Rattle.elements.proofs.Heads.{four-and-rest, flag-back, flag-small, flag-again}

@@ -9,7 +9,7 @@ use borrow.Author.Tests.{eq-eqb, ne-eqb, eqb-false, le-ltb, ltb-false}
 use lib.ListN.{length, take, drop, length-drop, drop-of-length-le}
 use lib.Seq.{length-take-le, take-all, take-nil, drop-nil}
 use Rattle.elements.specs.Parts.{shownPart, item, itemCount, itemFaults, badItems}
-use Rattle.elements.proofs.Tests.{any-no, no-any, equal-no, no-equal}
+use Rattle.refusal.proofs.Tests.{any-no, no-any, equal-no, no-equal}
 
 -- a part up to the end, as the code takes it
 pub part-to-end : (n : ℕ) (b : List ℕ) → take (length b - n) (drop n b) ≡ drop n b

@@ -13,7 +13,7 @@ use Rattle.refusal.specs.Rules.{reply}
 use Rattle.refusal.proofs.Laws.{accepted-yes}
 use Rattle.elements.specs.declared.region.Region.{Region}
 use Rattle.elements.specs.Region.{Addresses, regionLength, regionAt, regionUnsound, regionBytes, regionFaults, regionNumber, regionWriteNumber, regionWritten}
-use Rattle.elements.proofs.Tests.{any-no, no-any, equal-no, no-equal}
+use Rattle.refusal.proofs.Tests.{any-no, no-any, equal-no, no-equal}
 use Rattle.elements.proofs.Verdicts.{read-yes, read-accepted, write-yes, write-accepted}
 
 -- the region behind p

@@ -11,7 +11,7 @@ use Rattle.refusal.specs.Rules.{reply}
 use Rattle.refusal.proofs.Laws.{accepted-yes}
 use Rattle.elements.specs.Parts.{itemCount, hashWidth}
 use Rattle.elements.specs.RootCas.{rootsHeadLength, rootCountOf, rootsFaults, rootsNumber, rootsFields, rootsHashes, rootsFieldFaults, rootsFieldsMalformed, rootsBytes, rootsWriteNumber, rootsWritten}
-use Rattle.elements.proofs.Tests.{any-no, no-any, equal-no, no-equal}
+use Rattle.refusal.proofs.Tests.{any-no, no-any, equal-no, no-equal}
 use Rattle.elements.proofs.Verdicts.{read-yes, read-accepted, write-yes, write-accepted}
 use Rattle.elements.proofs.HashWidths.{width-positive}
 use Rattle.elements.proofs.Items.{GoodItems, good-items, items-good, items-of, counted}

@@ -11,7 +11,7 @@ use Rattle.refusal.proofs.Laws.{accepted-yes}
 use Rattle.elements.specs.declared.rw_region.RwRegion.{RwRegion}
 use Rattle.elements.specs.Region.{Addresses, regionAt, regionUnsound}
 use Rattle.elements.specs.RwRegion.{operationNumber, rwRegionLength, rwRegionFields, rwRegionFaults, rwRegionNumber, rwRegionBytes, rwRegionWriteNumber, rwRegionWritten}
-use Rattle.elements.proofs.Tests.{any-no, no-any, equal-no, no-equal}
+use Rattle.refusal.proofs.Tests.{any-no, no-any, equal-no, no-equal}
 use Rattle.elements.proofs.Verdicts.{read-yes, read-accepted, write-yes, write-accepted}
 use Rattle.elements.proofs.Heads.{four-and-rest, operation-back, operation-small, operation-again}
 use Rattle.elements.proofs.Regions.{region-behind, region-rest}

@@ -11,7 +11,7 @@ use Rattle.refusal.specs.Number.{numberOf}
 use Rattle.refusal.specs.Rules.{Reply, reply}
 use Rattle.refusal.proofs.Laws.{says-yes, says-no, when-accepted, accepted-yes, accepted-no}
 use Rattle.elements.specs.Parts.{readNumber, writeNumber, writtenBy, shownPart}
-use Rattle.elements.proofs.Tests.{equal-no, no-equal}
+use Rattle.refusal.proofs.Tests.{equal-no, no-equal}
 
 -- ---- a reader that judges m, and has the number n
 

@@ -18,9 +18,6 @@ use Rattle.manifest.specs.Slot.{bufferLength, shortest, outside, wrongBu
 pub inside : (low high n : ℕ) → outside low high n ≡ false → (low ≤ n) × (n ≤ high)
 inside low high n e = let p = or-no (ltb n low) (ltb high n) e in (ltb-false n low (p .0), ltb-false high n (p .1))
 
-pub not-outside : (low high n : ℕ) → low ≤ n → n ≤ high → outside low high n ≡ false
-not-outside low high n p q = rw (le-ltb n low p, le-ltb high n q)
-
 pub right-buffers : (pending active : List ℕ) → wrongBuffers pending active ≡ false
     → (length pending ≡ bufferLength) × (length active ≡ bufferLength)
 right-buffers pending active e =
