@@ -121,10 +121,11 @@ impl SignedImage {
         ensures { λ r. ⌜ r ≡ imageFieldsMalformed «hash_type» (now (hash .entry)) (now (regions .entry)) ⌝ }
     {
         let width = parts::hash_width(hash_type);
-        (2 < hash_type)
-            | (hash.len() != width)
-            | parts::bad_items(regions, Region::LEN)
-            | Region::any_unsound(regions, parts::item_count(regions, Region::LEN))
+        if (2 < hash_type) | (hash.len() != width) | parts::bad_items(regions, Region::LEN) {
+            return true;
+        }
+        // At most 255 regions are left to look at, however many bytes were lent.
+        Region::any_unsound(regions, parts::item_count(regions, Region::LEN))
     }
 
     fn write_verdict(hash_type: u8, hash: &[u8], regions: &[u8], buffer_len: usize) -> Verdict

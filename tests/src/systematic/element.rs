@@ -143,8 +143,24 @@ pub fn absurd_lengths(harness: &mut Harness, rng: &mut Rng) {
                 let len = cas.len().wrapping_add(add);
                 harness.run(root_cas(call, hash_type, cas.clone(), rng).claiming(0, len, 12));
             }
+            absurd_writers(harness, hash_type, count, add, rng);
             harness.run(read_region(region.clone(), rng).claiming(0, 8 + add, 12));
             harness.run(read_rw_region(rw_region.clone(), rng).claiming(0, 12 + add, 12));
         }
     }
+}
+
+/// Both writers, with a hash, regions or hashes that are longer than any memory.
+fn absurd_writers(harness: &mut Harness, hash_type: u8, count: usize, add: usize, rng: &mut Rng) {
+    let (hash, regions) = (rng.bytes(hash_len(hash_type)), vec![0x11; 8 * count]);
+    let hashes = rng.bytes(count * hash.len());
+    let number = u64::from(hash_type);
+    for (lent, len) in [hash.len() + add, regions.len() + add].into_iter().enumerate() {
+        let buffer = rng.bytes(4 + hash.len() + regions.len());
+        let case = Case::new(Call::SignedImageWrite, &[number, 1], vec![hash.clone(), regions.clone(), buffer]);
+        harness.run(case.claiming(lent, len, 12));
+    }
+    let buffer = rng.bytes(4 + hashes.len());
+    let len = hashes.len().wrapping_add(add);
+    harness.run(Case::new(Call::RootCasWrite, &[number], vec![hashes, buffer]).claiming(0, len, 12));
 }
