@@ -79,6 +79,15 @@ slot-accepted n f g p e t q r =
     let e' = says-yes (e ∙ ap f p) t in
     (sym e', put n e' (r ∙ ap numbersOf (q ∙ ap g p)))
 
+-- the same of what `store` leaves of the answer
+pub slot-stored : {s next : Slot} {k r : ℕ} {m : List ℕ} (n : List ℕ) (f : Slot → ℕ) (g : Slot → Slot)
+    → s ≡ slotOf n → k ≡ f s → next ≡ g s → r ≡ k → m ≡ (accepted k then numbersOf next else n)
+    → (r ≡ f (slotOf n)) × (m ≡ (accepted f (slotOf n) then numbersOf (g (slotOf n)) else n))
+slot-stored n f g p e q a b =
+    let e' = e ∙ ap f p in
+    let q' = q ∙ ap g p in
+    (a ∙ e', b ∙ (λ i. accepted e' i then numbersOf (q' i) else n))
+
 -- ---- the manifest of a role: what is asked of the slot, and then of the role
 
 pub manifest-number : (s : Slot) (role : ℕ) (pending active : List ℕ) {n lent range : ℕ} → n ≡ (first lent then range) → lent ≡ lentNumber s pending active

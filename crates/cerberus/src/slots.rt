@@ -1,6 +1,7 @@
 // The manifest slot: its state is six integers behind a pointer.
 use crate::slot_numbers::numbers_of;
 use crate::slot_numbers::slot_of;
+use manifest::Answer;
 use manifest::Opening;
 use manifest::Role;
 use manifest::Slot;
@@ -38,6 +39,22 @@ pub extern "C" fn cerberus_slot_open(
     }
 }
 
+// Keeps the next slot of an accepted call, and answers the call's number.
+fn store(slot: &mut [u64; 6], answer: Answer) -> u8
+    ensures number { λ r. ⌜ r ≡ numberOf (answer .verdict) ⌝ }
+    ensures slot { λ _. ⌜ now (slot .exit) ≡ (accepted numberOf (answer .verdict) then numbersOf (answer .slot) else now (slot .entry)) ⌝ }
+{
+    let verdict = answer.verdict;
+    match verdict {
+        Verdict::Refused(why) => why.number(),
+        Verdict::Accepted => {
+            let next = answer.slot;
+            *slot = numbers_of(next);
+            0
+        }
+    }
+}
+
 #[no_mangle]
 pub extern "C" fn cerberus_slot_prepare(
     slot: &mut [u64; 6],
@@ -50,15 +67,7 @@ pub extern "C" fn cerberus_slot_prepare(
 {
     let numbers = *slot;
     let answer = slot_of(numbers).prepare(total, pending, active);
-    let verdict = answer.verdict;
-    match verdict {
-        Verdict::Refused(why) => why.number(),
-        Verdict::Accepted => {
-            let next = answer.slot;
-            *slot = numbers_of(next);
-            0
-        }
-    }
+    store(slot, answer)
 }
 
 #[no_mangle]
@@ -74,15 +83,7 @@ pub extern "C" fn cerberus_slot_update(
 {
     let numbers = *slot;
     let answer = slot_of(numbers).update(payload, pending, active);
-    let verdict = answer.verdict;
-    match verdict {
-        Verdict::Refused(why) => why.number(),
-        Verdict::Accepted => {
-            let next = answer.slot;
-            *slot = numbers_of(next);
-            0
-        }
-    }
+    store(slot, answer)
 }
 
 #[no_mangle]
@@ -98,15 +99,7 @@ pub extern "C" fn cerberus_slot_activate(
 {
     let numbers = *slot;
     let answer = slot_of(numbers).activate(signature_good == 1, pending, active);
-    let verdict = answer.verdict;
-    match verdict {
-        Verdict::Refused(why) => why.number(),
-        Verdict::Accepted => {
-            let next = answer.slot;
-            *slot = numbers_of(next);
-            0
-        }
-    }
+    store(slot, answer)
 }
 
 fn role_verdict(role: u8) -> Verdict
