@@ -11,11 +11,13 @@ ghost use mathlib.Core.Path.{_≡_};
 ghost use Rattle.refusal.specs.Number.{numberOf};
 ghost use Rattle.sha256.specs.Sha256.{sha256Number, sha256Digest};
 
+// A digest; zeros where the message is refused.
 pub struct Hashed {
     pub verdict: Verdict,
     pub digest: [u8; 32],
 }
 
+// Refuses a message of 2^61 bytes or more, whose length in bits has no place in the padding.
 pub fn sha256(message: &[u8]) -> Hashed
     ensures verdict { λ r. ⌜ numberOf (r .verdict) ≡ sha256Number (now (message .entry)) ⌝ }
     ensures digest { λ r. ⌜ r .digest ≡ sha256Digest (now (message .entry)) ⌝ }

@@ -45,8 +45,8 @@ fn byte_at(m: &[u8], i: usize) -> u8
     length_byte(n, i - end)
 }
 
-// The place after place j of a block where the next byte that may not be 0 stands: past the message of n bytes come zeros, up to the length. Byte
-// j of the block is byte at of the padded message.
+// The next place of a block, after place j, whose byte may not be 0: past a message of n bytes come zeros, up to the length. Place j of the block is
+// index `at` of the padded message.
 fn next_place(n: usize, at: usize, j: usize) -> usize
     requires { ⌜ j < 64 ⌝ }
     ensures { λ r. ⌜ NextPlace n at j r ⌝ }
