@@ -8,7 +8,7 @@ use refusal::Refusal;
 ghost use mathlib.Core.Path.{_≡_};
 ghost use Rattle.refusal.specs.Rules.{accepted_then_else_};
 ghost use Rattle.elements.specs.Region.{regionAt, regionNumber, regionWriteNumber, regionWritten};
-ghost use Rattle.elements.specs.RwRegion.{operationNumber, operationOf, rwRegionFields, rwRegionNumber};
+ghost use Rattle.elements.specs.RwRegion.{operationNumber, rwRegionFields, rwRegionNumber};
 ghost use Rattle.cerberus.specs.Calls.{rwRegionNumberWritten, rwRegionBytesWritten};
 
 #[no_mangle]
@@ -63,17 +63,6 @@ pub extern "C" fn cerberus_rw_region_read(
     }
 }
 
-fn operation_of(number: u8) -> Operation
-    ensures { λ r. ⌜ r ≡ operationOf number ⌝ }
-{
-    match number {
-        0 => Operation::Nothing,
-        1 => Operation::Restore,
-        2 => Operation::Erase,
-        _ => Operation::Reserved,
-    }
-}
-
 #[no_mangle]
 pub extern "C" fn cerberus_rw_region_write(
     operation: u8,
@@ -88,7 +77,7 @@ pub extern "C" fn cerberus_rw_region_write(
         return Refusal::MalformedElement.number();
     }
     let rw = RwRegion {
-        operation: operation_of(operation),
+        operation: Operation::of_number(operation),
         region: Region { start, end },
     };
     rw.write(buffer).number()

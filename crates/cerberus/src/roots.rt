@@ -8,9 +8,6 @@ ghost use Rattle.elements.specs.Parts.{hashWidth};
 ghost use Rattle.elements.specs.RootCas.{rootCountOf, rootsNumber, rootsWriteNumber, rootsWritten};
 ghost use Rattle.cerberus.specs.Calls.{rootsHashNumber, rootsHashOffset};
 
-// Where the first hash begins in an element.
-const HASHES: usize = 4;
-
 #[no_mangle]
 pub extern "C" fn cerberus_root_cas_read(
     hash_type: u8,
@@ -51,7 +48,7 @@ pub extern "C" fn cerberus_root_cas_hash(
     if width == 0 {
         return Refusal::MalformedElement.number();
     }
-    *offset = HASHES + width * index;
+    *offset = RootCas::HEAD_LEN + width * index;
     *hash_len = width;
     0
 }

@@ -21,7 +21,7 @@ pub enum RootCasRead {
 
 impl RootCas {
     // The bytes before the hashes.
-    const HEAD_LEN: usize = 4;
+    pub const HEAD_LEN: usize = 4;
 
     pub fn read(hash_type: u8, element: &[u8]) -> RootCasRead
         ensures { λ r. ⌜ rootsReply r ≡ reply (rootsNumber «hash_type» (now (element .entry))) (rootsFields (now (element .entry))) ⌝ }

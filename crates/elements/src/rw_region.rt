@@ -37,10 +37,11 @@ impl Operation {
         }
     }
 
-    fn of_bits(bits: u8) -> Operation
-        ensures { λ r. ⌜ r ≡ operationOf bits ⌝ }
+    // The operation of a number of two bits; Reserved for any above.
+    pub fn of_number(number: u8) -> Operation
+        ensures { λ r. ⌜ r ≡ operationOf number ⌝ }
     {
-        match bits {
+        match number {
             0 => Operation::Nothing,
             1 => Operation::Restore,
             2 => Operation::Erase,
@@ -63,7 +64,7 @@ impl RwRegion {
         }
         let bits = octets::byte_at(element, 0) & 3;
         RwRegionRead::Read(RwRegion {
-            operation: Operation::of_bits(bits),
+            operation: Operation::of_number(bits),
             region: Region::at(element, RwRegion::HEAD_LEN),
         })
     }

@@ -23,7 +23,7 @@ returns-2 c =
     let b = now (a .buffer) in
     let region : Region = record { start = a .start; end = a .end } in
     let w = c .before .before .before .write .ensures in
-    tested (rwRegionBytes (rwRegionOf (a .operation) region)) b (le-ltb 3 (a .operation) (c .before .before .before .before .before .before .if1 .left)) (c .number2 .ensures ∙ w .0) (w .1 ∙ ap (λ (o : Operation). rwRegionWritten (record { operation = o; region = region }) b) (c .before .before .before .before .before .operation-of .ensures))
+    tested (rwRegionBytes (rwRegionOf (a .operation) region)) b (le-ltb 3 (a .operation) (c .before .before .before .before .before .before .if1 .left)) (c .number2 .ensures ∙ w .0) (w .1 ∙ ap (λ (o : Operation). rwRegionWritten (record { operation = o; region = region }) b) (c .before .before .before .before .before .of-number .ensures))
 
 pub cerberus-rw-region-write-spec : {M : Type 1} → statement M
 cerberus-rw-region-write-spec = tie.close

@@ -1,6 +1,6 @@
 use borrow.Author.Tests.{ne-eqb}
-use Rattle.cerberus.proofs.regions.operation_of.Statement.{statement}
-use Rattle.cerberus.proofs.regions.operation_of.Tie as tie
+use Rattle.elements.proofs.rw_region.Operation.of_number.Statement.{statement}
+use Rattle.elements.proofs.rw_region.Operation.of_number.Tie as tie
 
 returns : tie.Need-returns
 returns c = simp (c .match .keys1)
@@ -16,6 +16,6 @@ returns-4 c =
     let r = c .match .rest in
     simp (ne-eqb _ _ (r .0 .0 .1), ne-eqb _ _ (r .0 .1), ne-eqb _ _ (r .1))
 
-pub operation-of-spec : {M : Type 1} → statement M
-operation-of-spec = tie.close
+pub of-number-spec : {M : Type 1} → statement M
+of-number-spec = tie.close
     (tie.spec returns returns-2 returns-3 returns-4)
