@@ -2,35 +2,29 @@
 use Prim.Native.Nat.{ℕ, zero, suc, _≤_}
 use mathlib.Core.Path.{_≡_, refl, sym, ap, _∙_, subst}
 use mathlib.Core.Bool.{not}
-use mathlib.Core.List.{List, [], _∷_, append-nil}
+use mathlib.Core.List.{List, [], _∷_}
 use native.Mathlib.Omega.{arith}
 use lib.ListN.{length}
 use lib.Dec.{eqb}
 use borrow.Author.Tests.{le-ltb}
 use Rattle.refusal.specs.Rules.{accepted_then_else_}
 use Rattle.refusal.proofs.Laws.{when-accepted}
-use Rattle.attestation_log.specs.History.{bufferLength, lastPmr, Event, IsHistory, foldOf, textOf, bufferOf}
-use Rattle.attestation_log.specs.Soundness.{historyOf}
+use Rattle.attestation_log.specs.History.{bufferLength, lastPmr, Event, IsHistory, foldOf, bufferOf}
 use Rattle.attestation_log.specs.Calls.{Outcome, badTextLength, registerStep}
 use Rattle.attestation_log.specs.Sequences.{Kind, reset, recordEvent, registerRead, readOut, readOutVerdict, replay, Call, AllAllowed, Observation, observe, HasText, Found, foundNumber, foundHistory, historyNumber, historyNext, historyStep, lentLength, kindOf, expectation}
 use Rattle.attestation_log.specs.Texts.{wholeHistory}
 use Rattle.attestation_log.specs.Claim.{countAfter, bufferAfter}
-use Rattle.attestation_log.proofs.Soundness.{history-text}
-use Rattle.attestation_log.proofs.Steps.{text-replayed, register-follows}
+use Rattle.attestation_log.proofs.Steps.{register-follows}
+use Rattle.attestation_log.proofs.TextChecks.{text-whole}
+use Rattle.attestation_log.proofs.Records.{read-ends}
 use Rattle.attestation_log.proofs.Sequences.{find-history, response, Observed, call-observed, start-observed, Ends, ends-cons}
-use Rattle.equal_registers.specs.Runs.{Run, recordsNext, recordsFrom, recordsIn, registerAtEnd}
+use Rattle.equal_registers.specs.Runs.{Run, recordsNext, recordsFrom, recordsIn, registerAtEnd, textAtEnd}
 
 -- ---- one call
 
 -- a text's history is the one that its entries name
-text-history : (text : List ℕ) (h : List Event) → HasText text h → h ≡ wholeHistory text
-unfolding wholeHistory
-text-history text h w =
-    sym (history-text h (w .0 .events) [])
-    ∙ λ i. historyOf ((append-nil (textOf h) ∙ w .1) i) (sym (text-replayed text h w .count) i)
-
 found-history : (text : List ℕ) (f : Found text) → foundNumber f ≡ 0 → foundHistory f ≡ wholeHistory text
-found-history text (yes w) e = text-history text (w .0) (w .1)
+found-history text (yes w) e = sym (text-whole text (w .0) (w .1))
 found-history text (no r) e = absurd (omega arith)
 
 -- an accepted call leaves the records that the history says
@@ -88,6 +82,11 @@ module _ (r : Run) where
   -- its records are a history
   pub run-history : IsHistory (recordsIn r)
   run-history = run-ends .history
+
+  -- the text that it reads out is theirs
+  pub run-text : HasText (textAtEnd r) (recordsIn r)
+  unfolding textAtEnd
+  run-text = (run-history, sym (read-ends _ _ (recordsIn r) run-ends))
 
   -- and its register at the end is their fold
   pub run-register : (p : ℕ) → p ≤ lastPmr → registerAtEnd p r ≡ foldOf p (recordsIn r)

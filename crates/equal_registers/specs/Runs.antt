@@ -3,7 +3,7 @@ use Prim.Native.Nat.{ℕ}
 use mathlib.Core.List.{List, [], _∷_, _++_}
 use Rattle.refusal.specs.Rules.{accepted_then_else_}
 use Rattle.attestation_log.specs.History.{Event}
-use Rattle.attestation_log.specs.Calls.{registerStep}
+use Rattle.attestation_log.specs.Calls.{registerStep, readOutStep}
 use Rattle.attestation_log.specs.Texts.{wholeHistory}
 use Rattle.attestation_log.specs.Sequences.{Kind, reset, recordEvent, registerRead, readOut, readOutVerdict, replay, Call, kindOf, observe}
 use Rattle.attestation_log.specs.Claim.{Started, countAfter, bufferAfter}
@@ -43,3 +43,8 @@ recordsIn r = recordsFrom [] (r .count) (r .buffer) (r .first ∷ r .rest)
 unfoldable pub registerAtEnd : ℕ → Run → List ℕ
 registerAtEnd p r =
     registerStep p (countAfter (r .count) (r .buffer) (r .first ∷ r .rest)) (bufferAfter (r .count) (r .buffer) (r .first ∷ r .rest)) .bytes
+
+-- what a read-out then answers
+unfoldable pub textAtEnd : Run → List ℕ
+textAtEnd r =
+    readOutStep (countAfter (r .count) (r .buffer) (r .first ∷ r .rest)) (bufferAfter (r .count) (r .buffer) (r .first ∷ r .rest)) .bytes
