@@ -82,6 +82,32 @@ uint8_t cerberus_log_read_out_verdict(size_t count, const uint8_t *buffer, size_
  * 4 no run of records from a reset writes the text. */
 uint8_t cerberus_log_replay(size_t *count, const uint8_t *text, size_t text_len, uint8_t *buffer, size_t buffer_len);
 
+/* ---- recorded logs, read without a buffer */
+
+/* Whether a replay takes the text.
+ * Refuses: 2; 4, as cerberus_log_replay. */
+uint8_t cerberus_log_text_verdict(const uint8_t *text, size_t text_len);
+
+#define CERBERUS_PMRS 5
+
+/* What the texts of two logs say of one PMR. */
+typedef struct {
+    uint8_t left_records;  /* the PMR's records in the left text, 0 to 64 */
+    uint8_t right_records; /* and in the right text */
+    uint8_t same_register; /* 1 if the register is the same after both texts, else 0 */
+    uint8_t agree;         /* 1 if the digests are the same, in the same order, else 0 */
+    uint8_t differ_at;     /* the place, among the PMR's records and from 0, where they first differ; 0 if they agree */
+} cerberus_pmr_comparison;
+
+/* Compares the texts of two logs: comparison[p] becomes what they say of PMR p.
+ * Where one has fewer records of a PMR, its end counts as a difference; event
+ * types and the order between PMRs aren't compared.
+ * Refuses: 2; 4, as cerberus_log_replay, for the left text; then 2; 4 for the
+ * right one. cerberus_log_text_verdict of the left text tells which of the two
+ * was refused: where it answers 0, the right one. */
+uint8_t cerberus_log_compare(const uint8_t *left, size_t left_len, const uint8_t *right, size_t right_len,
+                             cerberus_pmr_comparison comparison[CERBERUS_PMRS]);
+
 /* ---- the manifest slot */
 
 #define CERBERUS_SLOT_BUFFER_LEN 4096

@@ -1,6 +1,6 @@
-/* The controller calls from C: a measurement log with three events, and a manifest that comes in
- * by Cerberus messages and is then asked for its version id. The status is 1 if a call answers
- * something that it shouldn't. */
+/* The controller calls from C: a measurement log with three events, which is compared with another
+ * card's, and a manifest that comes in by Cerberus messages and is then asked for its version id.
+ * The status is 1 if a call answers something that it shouldn't. */
 #include "cerberus.h"
 
 #include <stdio.h>
@@ -38,17 +38,17 @@ static void print_bytes(const uint8_t *bytes, size_t len) {
 
 static uint8_t log_buffer[CERBERUS_LOG_BUFFER_LEN];
 
-static void record(size_t *count, uint8_t pmr, uint32_t event_type, const char *firmware) {
+static void record(size_t *count, uint8_t *buffer, uint8_t pmr, uint32_t event_type, const char *firmware) {
     uint8_t digest[32];
     uint8_t answer = cerberus_sha256((const uint8_t *)firmware, strlen(firmware), digest);
     expect(answer, CERBERUS_ACCEPTED, "hash");
-    answer = cerberus_log_record(count, pmr, event_type, digest, log_buffer, sizeof log_buffer);
+    answer = cerberus_log_record(count, pmr, event_type, digest, buffer, CERBERUS_LOG_BUFFER_LEN);
     expect(answer, CERBERUS_ACCEPTED, "record");
     printf("  recorded \"%s\" in PMR%u, event type %u: %zu entries\n", firmware, pmr, event_type, *count);
 }
 
 static void show_registers(size_t count) {
-    for (uint8_t pmr = 0; pmr < 5; pmr++) {
+    for (uint8_t pmr = 0; pmr < CERBERUS_PMRS; pmr++) {
         uint8_t value[32];
         uint8_t answer = cerberus_log_register(count, pmr, log_buffer, sizeof log_buffer, value);
         expect(answer, CERBERUS_ACCEPTED, "register");
@@ -70,16 +70,48 @@ static void replay(size_t count) {
     }
 }
 
+static void show_comparison(const cerberus_pmr_comparison comparison[CERBERUS_PMRS]) {
+    for (uint8_t pmr = 0; pmr < CERBERUS_PMRS; pmr++) {
+        const cerberus_pmr_comparison *found = &comparison[pmr];
+        printf("  PMR%u %u and %u records, ", pmr, found->left_records, found->right_records);
+        if (found->agree)
+            printf("the same digests\n");
+        else
+            printf("digests first differ at place %u\n", found->differ_at);
+    }
+}
+
+/* Another card recorded the same boot loader and frame memory, in another order, and newer controller firmware. */
+static void compare(size_t count) {
+    static uint8_t other[CERBERUS_LOG_BUFFER_LEN];
+    cerberus_pmr_comparison comparison[CERBERUS_PMRS];
+    size_t other_count;
+    printf("another card's log, compared\n");
+    expect(cerberus_log_reset(&other_count, other, sizeof other), CERBERUS_ACCEPTED, "reset");
+    record(&other_count, other, 3, 10, "frame-memory firmware");
+    record(&other_count, other, 0, 8, "boot loader");
+    record(&other_count, other, 0, 1, "newer controller firmware");
+    uint8_t answer = cerberus_log_compare(log_buffer, count * CERBERUS_LOG_ENTRY_LEN, other,
+                                          other_count * CERBERUS_LOG_ENTRY_LEN, comparison);
+    expect(answer, CERBERUS_ACCEPTED, "compare");
+    show_comparison(comparison);
+    if (comparison[0].agree || comparison[0].differ_at != 1 || !comparison[3].agree || !comparison[3].same_register) {
+        fprintf(stderr, "the comparison isn't right\n");
+        exit(1);
+    }
+}
+
 static void measure(void) {
     size_t count;
     printf("measurement log\n");
     expect(cerberus_log_reset(&count, log_buffer, sizeof log_buffer), CERBERUS_ACCEPTED, "reset");
     printf("  reset: %zu entries\n", count);
-    record(&count, 0, 8, "boot loader");
-    record(&count, 0, 1, "controller firmware");
-    record(&count, 3, 10, "frame-memory firmware");
+    record(&count, log_buffer, 0, 8, "boot loader");
+    record(&count, log_buffer, 0, 1, "controller firmware");
+    record(&count, log_buffer, 3, 10, "frame-memory firmware");
     show_registers(count);
     replay(count);
+    compare(count);
 }
 
 /* ---- the manifest slot */

@@ -2,7 +2,7 @@
 //! the library is called, and what the model says of the same inputs.
 
 use crate::ffi;
-use crate::model::{Answer, Refusal, element, log, meaning, message, sha256, slot};
+use crate::model::{Answer, Refusal, comparison, element, log, meaning, message, sha256, slot};
 
 /// What lent memory serves as.
 #[derive(Clone, Copy, PartialEq, Eq)]
@@ -25,6 +25,8 @@ pub enum Call {
     LogReadOut,
     LogReadOutVerdict,
     LogReplay,
+    LogTextVerdict,
+    LogCompare,
     SlotOpen,
     SlotPrepare,
     SlotUpdate,
@@ -46,7 +48,7 @@ pub enum Call {
 
 use Call::*;
 
-pub const CALLS: [Call; 25] = [
+pub const CALLS: [Call; 27] = [
     Meaning,
     Sha256,
     LogReset,
@@ -55,6 +57,8 @@ pub const CALLS: [Call; 25] = [
     LogReadOut,
     LogReadOutVerdict,
     LogReplay,
+    LogTextVerdict,
+    LogCompare,
     SlotOpen,
     SlotPrepare,
     SlotUpdate,
@@ -105,6 +109,10 @@ impl Call {
             LogReadOutVerdict => ("cerberus_log_read_out_verdict", &[0, 3, 4], &["count"], &[("buffer", Bytes)]),
             LogReplay => {
                 ("cerberus_log_replay", &[0, 2, 3, 4], &[], &[("count", Value), ("text", Bytes), ("buffer", Bytes)])
+            }
+            LogTextVerdict => ("cerberus_log_text_verdict", &[0, 2, 4], &[], &[("text", Bytes)]),
+            LogCompare => {
+                ("cerberus_log_compare", &[0, 2, 4], &[], &[("left", Bytes), ("right", Bytes), ("comparison", Bytes)])
             }
             SlotOpen => {
                 ("cerberus_slot_open", &[0, 3], &["magic"], &[("slot", Value), ("pending", Bytes), ("active", Bytes)])
@@ -254,6 +262,8 @@ pub fn call_library(case: &Case, at: &[*mut u8]) -> u8 {
             LogReadOut => ffi::cerberus_log_read_out(n[0] as usize, at[0], len(0), at[1].cast()),
             LogReadOutVerdict => ffi::cerberus_log_read_out_verdict(n[0] as usize, at[0], len(0)),
             LogReplay => ffi::cerberus_log_replay(at[0].cast(), at[1], len(1), at[2], len(2)),
+            LogTextVerdict => ffi::cerberus_log_text_verdict(at[0], len(0)),
+            LogCompare => ffi::cerberus_log_compare(at[0], len(0), at[1], len(1), at[2].cast()),
             SlotOpen => ffi::cerberus_slot_open(at[0].cast(), n[0] as u16, at[1], len(1), at[2], len(2)),
             SlotPrepare => ffi::cerberus_slot_prepare(at[0].cast(), n[0] as u32, at[1], len(1), at[2], len(2)),
             SlotUpdate => ffi::cerberus_slot_update(at[0].cast(), at[1], len(1), at[2], len(2), at[3], len(3)),
@@ -304,7 +314,7 @@ pub struct Outcome {
     pub lent: Vec<Vec<u8>>,
 }
 
-/// What document 01 and the header say that the call does.
+/// What the papers and the header say that the call does.
 pub fn call_model(case: &Case) -> Outcome {
     let mut lent = case.lent.clone();
     let answer = match case.claim {
@@ -366,6 +376,12 @@ fn apply_model(call: Call, n: &[u64], lent: &mut [Vec<u8>]) -> Answer<()> {
             log::read_out(n[0], buffer)?;
         }
         (LogReplay, [count, text, buffer]) => put_size(count, log::replay(text, buffer)?),
+        (LogTextVerdict, [text]) => {
+            log::Book::of_text(text)?;
+        }
+        (LogCompare, [left, right, comparison]) => {
+            comparison.copy_from_slice(&ffi::comparison_bytes(&comparison::compare(left, right)?));
+        }
         (SlotOpen, [slot, pending, active]) => put_slot(slot, slot::open(n[0] as u16, pending, active)?),
         (SlotPrepare, [slot, pending, active]) => {
             let state = slot::entered(&ffi::slot_numbers(slot), pending, active)?;

@@ -1,6 +1,8 @@
 //! The functions of include/cerberus.h, declared again. The stand-in includes that header itself,
 //! so the self-test would show a declaration that is not the header's.
 
+use crate::model::comparison::PmrComparison;
+use crate::model::log::PMRS;
 use crate::model::slot::Numbers;
 
 /// The header's cerberus_slot.
@@ -34,6 +36,27 @@ pub fn slot_numbers(bytes: &[u8]) -> Numbers {
     }
 }
 
+/// The header's cerberus_pmr_comparison.
+#[repr(C)]
+pub struct ComparedPmr {
+    left_records: u8,
+    right_records: u8,
+    same_register: u8,
+    agree: u8,
+    differ_at: u8,
+}
+
+pub const COMPARISON_LEN: usize = PMRS * size_of::<ComparedPmr>();
+
+/// The five PMRs' comparisons, as they lie in memory.
+pub fn comparison_bytes(comparison: &[PmrComparison; PMRS]) -> Vec<u8> {
+    let fields = |pmr: &PmrComparison| {
+        let (same_register, agree) = (u8::from(pmr.same_register), u8::from(pmr.differ_at.is_none()));
+        [pmr.left_records, pmr.right_records, same_register, agree, pmr.differ_at.unwrap_or(0)]
+    };
+    comparison.iter().flat_map(fields).collect()
+}
+
 unsafe extern "C" {
     pub fn cerberus_meaning(number: u8, text: *mut u8, text_len: usize, meaning_len: *mut usize) -> u8;
 
@@ -57,6 +80,15 @@ unsafe extern "C" {
         text_len: usize,
         buffer: *mut u8,
         buffer_len: usize,
+    ) -> u8;
+
+    pub fn cerberus_log_text_verdict(text: *const u8, text_len: usize) -> u8;
+    pub fn cerberus_log_compare(
+        left: *const u8,
+        left_len: usize,
+        right: *const u8,
+        right_len: usize,
+        comparison: *mut ComparedPmr,
     ) -> u8;
 
     pub fn cerberus_slot_open(

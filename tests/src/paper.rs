@@ -28,6 +28,7 @@ pub fn run(harness: &mut Harness) {
     headers(harness);
     elements(harness);
     first_record(harness);
+    first_record_compared(harness);
     limits(harness);
     version_id(harness);
 }
@@ -109,11 +110,17 @@ fn signed_image(harness: &mut Harness, hash_type: u8, count: u8, len: usize, ans
     expect(harness, case, 0, vec![element, vec![hash_type], vec![count], vec![1], hash_len]);
 }
 
-fn first_record(harness: &mut Harness) {
+/// First record, PMR0, event type 10, digest all zero.
+fn first_entry() -> Vec<u8> {
     let mut entry = bytes("0b 57 00 00 00 00 00 0a 00 00 00 00 00 00 00 01 00 00 0b");
     entry.extend([0; 32]);
     entry.extend(bytes("20 00 00 00"));
     entry.extend(bytes(OF_64_ZEROS));
+    entry
+}
+
+fn first_record(harness: &mut Harness) {
+    let mut entry = first_entry();
     entry.resize(5568, 0);
     let count = |count: u64| count.to_ne_bytes().to_vec();
     let case = Case::new(Call::LogRecord, &[0, 10], vec![count(0), vec![0; 32], vec![0; 5568]]);
@@ -122,6 +129,22 @@ fn first_record(harness: &mut Harness) {
     for pmr in 0..5 {
         let case = Case::new(Call::LogRegister, &[0, pmr], vec![vec![0; 5568], vec![9; 32]]);
         expect(harness, case, 0, vec![vec![0; 5568], vec![0; 32]]);
+    }
+}
+
+/// The text of the first record, beside itself and beside the empty text, whose PMR0 ends at place 0.
+fn first_record_compared(harness: &mut Harness) {
+    for (left, right, pmr0) in [
+        (first_entry(), first_entry(), "01 01 01 01 00"),
+        (first_entry(), Vec::new(), "01 00 00 00 00"),
+        (Vec::new(), first_entry(), "00 01 00 00 00"),
+        (Vec::new(), Vec::new(), "00 00 01 01 00"),
+    ] {
+        let mut comparison = bytes(pmr0);
+        comparison.extend(bytes("00 00 01 01 00").repeat(4));
+        let case = Case::new(Call::LogCompare, &[], vec![left.clone(), right.clone(), vec![9; 25]]);
+        expect(harness, case, 0, vec![left.clone(), right, comparison]);
+        expect_unchanged(harness, Case::new(Call::LogTextVerdict, &[], vec![left]), 0);
     }
 }
 

@@ -30,8 +30,15 @@ impl Job {
     }
 }
 
-const OVER_LOG: [Call; 6] =
-    [Call::LogReset, Call::LogRecord, Call::LogRegister, Call::LogReadOut, Call::LogReadOutVerdict, Call::LogReplay];
+const OVER_LOG: [Call; 7] = [
+    Call::LogReset,
+    Call::LogRecord,
+    Call::LogRegister,
+    Call::LogReadOut,
+    Call::LogReadOutVerdict,
+    Call::LogReplay,
+    Call::LogTextVerdict,
+];
 const OVER_SLOT: [Call; 6] =
     [Call::SlotOpen, Call::SlotPrepare, Call::SlotUpdate, Call::SlotActivate, Call::SlotManifest, Call::Command];
 const OVER_ELEMENT: [Call; 10] = [
@@ -76,6 +83,7 @@ fn systematic_jobs(plan: &mut Plan) {
     plan.add("log-buffer-lengths", &OVER_LOG, systematic::log::buffer_lengths);
     plan.add("log-text-lengths", &OVER_LOG, systematic::log::text_lengths);
     plan.add("log-refusals-at-once", &OVER_LOG, systematic::log::refusals_at_once);
+    comparison_jobs(plan);
     plan.add("slot-states", &OVER_SLOT, systematic::slot::states);
     plan.add("slot-totals", &OVER_SLOT, systematic::slot::totals);
     plan.add("slot-payloads", &OVER_SLOT, systematic::slot::payloads);
@@ -98,6 +106,20 @@ fn systematic_jobs(plan: &mut Plan) {
     plan.add("element-absurd-lengths", &OVER_ELEMENT, systematic::element::absurd_lengths);
     plan.add("meanings", &[Call::Meaning], systematic::meanings);
     plan.add("messages-to-hash", &[Call::Sha256], systematic::messages_to_hash);
+}
+
+fn comparison_jobs(plan: &mut Plan) {
+    for entries in [64, 12, 3, 1] {
+        let name = format!("comparison-damaged-{entries}");
+        plan.add(&name, &[Call::LogCompare], move |harness, rng| {
+            systematic::comparison::damaged(harness, entries, rng)
+        });
+    }
+    plan.add("comparison-places", &[Call::LogCompare], systematic::comparison::places);
+    plan.add("comparison-digest-bits", &[Call::LogCompare], systematic::comparison::digest_bits);
+    plan.add("comparison-sizes", &[Call::LogCompare], systematic::comparison::sizes);
+    plan.add("comparison-text-lengths", &[Call::LogCompare], systematic::comparison::text_lengths);
+    plan.add("comparison-refusals-at-once", &[Call::LogCompare], systematic::comparison::refusals_at_once);
 }
 
 /// Lists of calls, so many of each kind that they have some tenths of the random cases' number.

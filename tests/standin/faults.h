@@ -3,9 +3,11 @@
 #define FAULTS(F) \
     F(EQUAL_ID, "an equal version id is taken as forward", "cerberus_slot_activate cerberus_command") \
     F(DIGEST_FIRST, "the digest is hashed before the register", \
-      "cerberus_log_record cerberus_log_register cerberus_log_read_out cerberus_log_read_out_verdict cerberus_log_replay") \
+      "cerberus_log_record cerberus_log_register cerberus_log_read_out cerberus_log_read_out_verdict cerberus_log_replay " \
+      "cerberus_log_text_verdict cerberus_log_compare") \
     F(INDEX_OVER_LOG, "the measurement index counts over the whole log", \
-      "cerberus_log_record cerberus_log_register cerberus_log_read_out cerberus_log_read_out_verdict cerberus_log_replay") \
+      "cerberus_log_record cerberus_log_register cerberus_log_read_out cerberus_log_read_out_verdict cerberus_log_replay " \
+      "cerberus_log_text_verdict cerberus_log_compare") \
     F(RECEIVED_RAISED, "a refused update raises received", "cerberus_slot_update cerberus_command") \
     F(END_EXCLUSIVE, "a region's end is one past its last byte", \
       "cerberus_region_read cerberus_region_write cerberus_rw_region_read cerberus_rw_region_write " \
@@ -17,20 +19,39 @@
     F(BUFFER_FIRST, "writers give 3 before 12", \
       "cerberus_region_write cerberus_rw_region_write cerberus_signed_image_write cerberus_root_cas_write") \
     F(REFUSES_ALL, "everything is refused", \
-      "cerberus_log_record cerberus_log_replay cerberus_slot_activate cerberus_command cerberus_signed_image_read") \
+      "cerberus_log_record cerberus_log_replay cerberus_log_text_verdict cerberus_log_compare cerberus_slot_activate " \
+      "cerberus_command cerberus_signed_image_read") \
     F(ONE_REGISTER, "every register reads as the same 32 bytes", "cerberus_log_register") \
     F(NOTHING_WRITTEN, "record says yes and writes nothing", "cerberus_log_record") \
     F(FIRST_ONLY, "the first entry is written, later ones only counted", "cerberus_log_record") \
-    F(REPLAY_COPIES, "replay takes any text of a permitted length", "cerberus_log_replay") \
+    F(ANY_TEXT, "any text of a permitted length is taken", \
+      "cerberus_log_replay cerberus_log_text_verdict cerberus_log_compare") \
     F(LATER_BYTES, "bytes behind the log aren't looked at", \
       "cerberus_log_record cerberus_log_register cerberus_log_read_out cerberus_log_read_out_verdict") \
     F(COUNT_32_BITS, "the count is taken modulo 2^32", \
       "cerberus_log_record cerberus_log_register cerberus_log_read_out cerberus_log_read_out_verdict") \
     F(RANGE_BEFORE_STATE, "5 comes before 4", "cerberus_log_record cerberus_log_register") \
-    F(TEXT_BEFORE_LENGTH, "replay gives 4 for a length that isn't permitted", "cerberus_log_replay") \
+    F(TEXT_BEFORE_LENGTH, "a text whose length isn't permitted is 4", \
+      "cerberus_log_replay cerberus_log_text_verdict cerberus_log_compare") \
     F(EVENT_TYPE_16_BITS, "two bytes of the event type are lost", "cerberus_log_record cerberus_log_replay") \
     F(ANSWER_CLEARED, "a refused register read clears its answer", "cerberus_log_register") \
     F(RESET_KEEPS_COUNT, "reset leaves the count", "cerberus_log_reset") \
+    F(RIGHT_FIRST, "the right text is judged first", "cerberus_log_compare") \
+    F(RIGHT_BY_LENGTH, "the right text is judged by its length alone", "cerberus_log_compare") \
+    F(LENGTHS_FIRST, "both texts' lengths are judged first", "cerberus_log_compare") \
+    F(COMPARISON_CLEARED, "a refused comparison clears its answer", "cerberus_log_compare") \
+    F(SIDES_EXCHANGED, "left and right records are exchanged", "cerberus_log_compare") \
+    F(REGISTER_BY_COUNT, "registers are the same where the counts are", "cerberus_log_compare") \
+    F(AGREE_BY_COUNT, "digests agree where the counts do", "cerberus_log_compare") \
+    F(END_IGNORED, "an end isn't taken as a difference", "cerberus_log_compare") \
+    F(DIGEST_ANYWHERE, "a digest may stand anywhere in its PMR", "cerberus_log_compare") \
+    F(HALF_DIGEST, "half of each digest is compared", "cerberus_log_compare") \
+    F(EVENT_TYPE_COMPARED, "event types are compared too", "cerberus_log_compare") \
+    F(ORDER_COMPARED, "the order between PMRs is compared too", "cerberus_log_compare") \
+    F(LAST_DIFFERENCE, "the last difference is answered", "cerberus_log_compare") \
+    F(PLACE_FROM_1, "the place of a difference counts from 1", "cerberus_log_compare") \
+    F(PLACE_OVER_LOG, "the place of a difference counts over the whole log", "cerberus_log_compare") \
+    F(END_AT_AGREEMENT, "digests that agree have their end as a place", "cerberus_log_compare") \
     F(PAST_BUFFER, "the byte behind the buffer is written", "cerberus_log_reset cerberus_slot_open") \
     F(PADDING, "the padding is wrong where the length just fits", "cerberus_sha256") \
     F(OPEN_KEEPS, "opening leaves the active buffer", "cerberus_slot_open") \

@@ -2,6 +2,7 @@
 pub mod Answers
 pub mod States
 pub mod Outcomes
+pub mod ComparisonBytes
 pub mod Indices
 pub mod Meanings
 pub mod Parts

@@ -1,5 +1,5 @@
 -- What holds of the numbers that C holds.
-use Prim.Native.Nat.{ℕ, _+_, _^_, _<_, _≤_}
+use Prim.Native.Nat.{ℕ, _+_, _*_, _^_, _<_, _≤_}
 use mathlib.Core.Path.{_≡_}
 use mathlib.Core.Bool.{true, false, cond}
 use mathlib.Core.List.{List, [], _∷_}
@@ -8,13 +8,17 @@ use lib.Dec.{eqb}
 use Rattle.refusal.specs.declared.Refusal.{Refusal}
 use Rattle.refusal.specs.Number.{refusalNumber}
 use Rattle.meaning.specs.Meaning.{meaningOf}
+use Rattle.attestation_log.specs.History.{lastPmr}
 use Rattle.attestation_log.specs.Calls.{readOutStep}
+use Rattle.attestation_log.specs.Texts.{textHistory}
+use Rattle.log_comparison.specs.Comparison.{compareJudgement, pmrComparison, comparisons}
 use Rattle.manifest.specs.declared.Slot.{Slot}
 use Rattle.manifest.specs.Calls.{openNumber, lentNumber, manifestPart}
 use Rattle.elements.specs.Parts.{hashWidth}
 use Rattle.elements.specs.SignedImage.{imageHeadLength, imageNumber, imageHash, imageRegions}
 use Rattle.elements.specs.RootCas.{rootsHash}
 use Rattle.cerberus.specs.States.{noSlot, slotOf, numbersOf}
+use Rattle.cerberus.specs.Comparisons.{pmrComparisonLength, pmrComparisonBytes, comparisonBytes}
 use Rattle.cerberus.specs.Calls.{refusalOf, longestMeaning, manifestNumber, roleOf, manifestLength, rootsHashNumber, rootsHashOffset}
 
 -- ---- the integers of a slot
@@ -52,3 +56,11 @@ pub record PartLaws : Type 0 where
   -- "Hash index, from 0: the *hash_len bytes of element from *offset on"
   pub hash : (hashType : ℕ) (b : List ℕ) (index : ℕ) → rootsHashNumber hashType b index ≡ 0
       → take (hashWidth hashType) (drop (rootsHashOffset hashType index) b) ≡ rootsHash hashType b index
+
+-- ---- how two logs compare
+
+pub record ComparisonLaws : Type 0 where
+  -- of two texts that a replay takes, comparison[p] is what their histories say of PMR p
+  pub pmr : (l r : List ℕ) (p : ℕ) → compareJudgement l r .number ≡ 0 → p ≤ lastPmr
+      → take pmrComparisonLength (drop (pmrComparisonLength * p) (comparisonBytes (comparisons l r)))
+      ≡ pmrComparisonBytes (pmrComparison (textHistory l) (textHistory r) p)

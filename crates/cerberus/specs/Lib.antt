@@ -1,3 +1,4 @@
 pub mod States
+pub mod Comparisons
 pub mod Calls
 pub mod Laws

@@ -22,6 +22,13 @@ pub fn book(entries: usize, rng: &mut Rng) -> Book {
     book
 }
 
+/// The log that these records write.
+pub fn of_records(records: &[Record]) -> Book {
+    let mut book = Book::empty();
+    records.iter().for_each(|record| book.add(*record).unwrap());
+    book
+}
+
 /// Sound logs to make cases from.
 pub struct Pool {
     short: Vec<Book>,
@@ -166,14 +173,7 @@ pub fn other_count(count: u64, rng: &mut Rng) -> u64 {
 
 /// A case of replay.
 pub fn replay(pool: &Pool, rng: &mut Rng) -> Case {
-    let book = pool.pick(rng);
-    let text = match rng.below(20) {
-        0..9 => book.text().to_vec(),
-        9..13 => damaged_within(book, rng)[..book.text().len()].to_vec(),
-        13..16 => unsound_text(book, rng),
-        16 => rng.filling(book.text().len()),
-        _ => of_other_length(book, rng),
-    };
+    let text = text(pool, rng);
     let len = if rng.chance(90) { BUFFER_LEN } else { wrong_len(BUFFER_LEN, rng) };
     let case = of_replay(text, rng.filling(len), rng);
     let claims_text = rng.chance(50);
@@ -186,6 +186,32 @@ pub fn replay(pool: &Pool, rng: &mut Rng) -> Case {
 
 pub fn of_replay(text: Vec<u8>, buffer: Vec<u8>, rng: &mut Rng) -> Case {
     Case::new(Call::LogReplay, &[], vec![size(rng), text, buffer])
+}
+
+/// A case of the call that judges a text.
+pub fn text_verdict(pool: &Pool, rng: &mut Rng) -> Case {
+    let case = of_text_verdict(text(pool, rng));
+    if rng.chance(2) { case.claiming(0, absurd_len(ENTRY_LEN, rng), 2) } else { case }
+}
+
+pub fn of_text_verdict(text: Vec<u8>) -> Case {
+    Case::new(Call::LogTextVerdict, &[], vec![text])
+}
+
+/// A recorded log's text, sound in about half of the cases.
+fn text(pool: &Pool, rng: &mut Rng) -> Vec<u8> {
+    let book = pool.pick(rng);
+    if rng.chance(45) { book.text().to_vec() } else { broken_text(book, rng) }
+}
+
+/// A text that looks like a log's and that a replay refuses, as a rule.
+pub fn broken_text(book: &Book, rng: &mut Rng) -> Vec<u8> {
+    match rng.below(11) {
+        0..4 => damaged_within(book, rng)[..book.text().len()].to_vec(),
+        4..7 => unsound_text(book, rng),
+        7 => rng.filling(book.text().len()),
+        _ => of_other_length(book, rng),
+    }
 }
 
 /// A sound log's text, longer or shorter than it was.

@@ -1,6 +1,7 @@
 //! The inputs. Each generator breaks several rules at once now and then, so that the order of the
 //! refusals shows; what the answer is, the model says.
 
+pub mod comparison;
 pub mod element;
 pub mod log;
 pub mod message;
@@ -20,7 +21,13 @@ impl Generator {
     pub fn new(call: Call, rng: &mut Rng) -> Generator {
         let over_a_log = matches!(
             call,
-            Call::LogRecord | Call::LogRegister | Call::LogReadOut | Call::LogReadOutVerdict | Call::LogReplay
+            Call::LogRecord
+                | Call::LogRegister
+                | Call::LogReadOut
+                | Call::LogReadOutVerdict
+                | Call::LogReplay
+                | Call::LogTextVerdict
+                | Call::LogCompare
         );
         Generator { logs: over_a_log.then(|| log::Pool::new(rng)) }
     }
@@ -31,6 +38,8 @@ impl Generator {
             (Call::Sha256, _) => sha256::case(rng),
             (Call::LogReset, _) => log::reset(rng),
             (Call::LogReplay, Some(pool)) => log::replay(pool, rng),
+            (Call::LogTextVerdict, Some(pool)) => log::text_verdict(pool, rng),
+            (Call::LogCompare, Some(pool)) => comparison::case(pool, rng),
             (_, Some(pool)) => log::over_state(call, pool, rng),
             (Call::SlotOpen, _) => slot::open(rng),
             (Call::SlotPrepare, _) => slot::prepare(rng),

@@ -1,6 +1,7 @@
-//! Document 01 in plain Rust, written from the papers alone. It is slow and plain on purpose:
-//! what it does should be seen at once to be what the paper says.
+//! Document 01 and document 02, Item 13, in plain Rust, written from the papers alone. It is slow and
+//! plain on purpose: what it does should be seen at once to be what the paper says.
 
+pub mod comparison;
 pub mod element;
 pub mod log;
 pub mod meaning;

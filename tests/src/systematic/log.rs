@@ -2,7 +2,7 @@
 
 use super::broken;
 use crate::calls::{Call, Case};
-use crate::generate::log::{book, of_replay, of_state, other_count};
+use crate::generate::log::{book, of_replay, of_state, of_text_verdict, other_count};
 use crate::generate::{damage, size};
 use crate::harness::Harness;
 use crate::model::log::{BUFFER_LEN, Book, CAPACITY, ENTRY_LEN};
@@ -18,9 +18,11 @@ fn run_all(harness: &mut Harness, count: usize, buffer: &[u8], rng: &mut Rng) {
     }
 }
 
-fn run_replay(harness: &mut Harness, text: &[u8], rng: &mut Rng) {
+/// Both calls that judge a text, on one text.
+fn run_text(harness: &mut Harness, text: &[u8], rng: &mut Rng) {
     let held = rng.filling(BUFFER_LEN);
     harness.run(of_replay(text.to_vec(), held, rng));
+    harness.run(of_text_verdict(text.to_vec()));
 }
 
 /// One byte damaged, at every position of the buffer.
@@ -31,7 +33,7 @@ pub fn damaged(harness: &mut Harness, entries: usize, rng: &mut Rng) {
         damage(&mut buffer, at, rng);
         run_all(harness, entries, &buffer, rng);
         if at < book.text().len() {
-            run_replay(harness, &buffer[..book.text().len()], rng);
+            run_text(harness, &buffer[..book.text().len()], rng);
         }
     }
 }
@@ -41,7 +43,7 @@ pub fn sizes(harness: &mut Harness, rng: &mut Rng) {
     for entries in 0..=CAPACITY {
         let book = book(entries, rng);
         run_all(harness, entries, &book.buffer(), rng);
-        run_replay(harness, book.text(), rng);
+        run_text(harness, book.text(), rng);
         for count in 0..=70 {
             let call = rng.pick(&OVER_STATE);
             harness.run(of_state(call, count, 0, book.buffer(), rng));
@@ -75,7 +77,7 @@ pub fn pmr_bytes(harness: &mut Harness, rng: &mut Rng) {
                 let mut buffer = book.buffer();
                 buffer[entry * ENTRY_LEN + 12] = pmr;
                 run_all(harness, entries, &buffer, rng);
-                run_replay(harness, &buffer[..entries * ENTRY_LEN], rng);
+                run_text(harness, &buffer[..entries * ENTRY_LEN], rng);
             }
         }
     }
@@ -101,7 +103,7 @@ pub fn text_lengths(harness: &mut Harness, rng: &mut Rng) {
         let mut text = full.text().to_vec();
         text.resize(len, 0);
         for text in [text, vec![0; len]] {
-            run_replay(harness, &text, rng);
+            run_text(harness, &text, rng);
         }
     }
 }
@@ -151,5 +153,6 @@ fn replay(harness: &mut Harness, set: u32, book: &Book, rng: &mut Rng) {
     }
     let len = if broken(set, 4) { rng.pick(&[0, BUFFER_LEN - 1, BUFFER_LEN + 1]) } else { BUFFER_LEN };
     let held = rng.filling(len);
+    harness.run(of_text_verdict(text.clone()));
     harness.run(of_replay(text, held, rng));
 }

@@ -1,6 +1,7 @@
 //! Cases that are gone through one by one: every byte damaged, every length, every number at its
 //! limits, and every set of broken rules at once.
 
+pub mod comparison;
 pub mod element;
 pub mod log;
 pub mod message;
