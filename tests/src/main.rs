@@ -1,5 +1,4 @@
-//! Compares libcerberus.a with an implementation of document 01 and of document 02, Item 13, written
-//! from the papers alone.
+//! Compares libcerberus.a with an implementation of document 01 written from the papers alone.
 
 mod calls;
 mod crash;
