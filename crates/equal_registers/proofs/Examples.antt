@@ -39,7 +39,7 @@ last-digest : place (drop 32) (a ∷ c ∷ []) (b ∷ c ∷ []) ≡ some 1
 unfolding collisionPlace collide stringsFrom
 last-digest = refl
 
--- the same digests don't collide under any of them
+-- the same digests don't collide
 same-digests : place (drop 32) (a ∷ c ∷ []) (a ∷ c ∷ []) ≡ none
 unfolding collisionPlace collide stringsFrom
 same-digests = refl

@@ -1,4 +1,4 @@
--- A run, its accepted records, and its registers at the end.
+-- Document 02, Item 13: a run, its accepted records, and its registers at the end.
 use Prim.Native.Nat.{ℕ}
 use mathlib.Core.List.{List, [], _∷_, _++_}
 use Rattle.refusal.specs.Rules.{accepted_then_else_}

@@ -27,9 +27,10 @@ pub take-run : (b : List ℕ) (at k : ℕ) → at + k ≤ length b → take k (d
 take-run b at k h = ap (λ (n : ℕ). take k (drop n b)) (sym (add-zero at)) ∙ take-from b at 0 k (omega arith)
 
 -- a loop that stores one element a turn, where the first j elements are f j
-pub store-next : (f : ℕ → List ℕ) (w : List ℕ) (j v : ℕ) → j < length w → take j w ≡ f j → f (suc j) ≡ f j ++ (v ∷ []) → take (j + 1) (set w j v) ≡ f (j + 1)
-store-next f w j v h e g =
-    ap (λ (n : ℕ). take n (set w j v)) (add-one j) ∙ take-suc-set w j v h ∙ ap (λ (l : List ℕ). l ++ (v ∷ [])) e ∙ sym g
+pub store-next {ℓ} : {A : Type ℓ} (f : ℕ → List A) (w : List A) (j : ℕ) (v : A) → j < length w → take j w ≡ f j → f (suc j) ≡ f j ++ (v ∷ [])
+    → take (j + 1) (set w j v) ≡ f (j + 1)
+store-next {A = A} f w j v h e g =
+    ap (λ (n : ℕ). take n (set w j v)) (add-one j) ∙ take-suc-set w j v h ∙ ap (λ (l : List A). l ++ (v ∷ [])) e ∙ sym g
     ∙ ap f (sym (add-one j))
 
 -- a loop that stores one element a turn and leaves out zeros: out has the first j elements of d, and then zeros
