@@ -9,8 +9,9 @@ use native.Mathlib.Omega.{arith}
 use lib.ListN.{length, drop, length-drop}
 use lib.Seq.{length-take-le}
 use Rattle.fips180.specs.Family.{Family, blockBytes, lengthBytes}
-use Rattle.fips180.specs.Padding.{pad, block, zeroCount}
+use Rattle.fips180.specs.Padding.{block, zeroCount}
 use Rattle.fips180.specs.Hash.{compress, hashValue}
+use Rattle.fips180.specs.Continued.{padAfter}
 use Rattle.fips180.specs.Sha256.{family32}
 use Rattle.fips180.proofs.Padding.{length-pad}
 
@@ -43,7 +44,7 @@ least x z k a c b e g l h =
     omega arith
 
 module _ (f : Family) (positive : 0 < f .wordBytes) where
-  block-positive : 0 < blockBytes f
+  pub block-positive : 0 < blockBytes f
   unfolding blockBytes
   block-positive = omega arith
 
@@ -69,14 +70,14 @@ module _ (f : Family) (positive : 0 < f .wordBytes) where
       (blockBytes f) (omega arith) (omega arith) (zeroCount-lt n) h
 
   -- how many blocks, as code counts them
-  pub block-count : (m : List ℕ) → ((length m + lengthBytes f) / blockBytes f + 1) * blockBytes f ≡ length (pad f m)
-  block-count m =
-      let l = length-pad f m in
+  pub block-count : (k : ℕ) (m : List ℕ) → ((length m + lengthBytes f) / blockBytes f + 1) * blockBytes f ≡ length (padAfter f k m)
+  block-count k m =
+      let l = length-pad f k m in
       let z = zeroCount-fills (length m) in
       ap (λ (n : ℕ). n * blockBytes f) (add-one ((length m + lengthBytes f) / blockBytes f)) ∙ omega arith
 
-  pub whole-blocks : (m : List ℕ) → length (pad f m) % blockBytes f ≡ 0
-  whole-blocks m = ap (λ (n : ℕ). n % blockBytes f) (sym (block-count m)) ∙ mul-mod-left ((length m + lengthBytes f) / blockBytes f + 1) (blockBytes f)
+  pub whole-blocks : (k : ℕ) (m : List ℕ) → length (padAfter f k m) % blockBytes f ≡ 0
+  whole-blocks k m = ap (λ (n : ℕ). n % blockBytes f) (sym (block-count k m)) ∙ mul-mod-left ((length m + lengthBytes f) / blockBytes f + 1) (blockBytes f)
 
 -- H^(i + 1), where s is H^(i) and b is block i
 pub hashValue-more : (f : Family) (h p b s t : List ℕ) (i : ℕ) → s ≡ hashValue f h p i → b ≡ block f p i → t ≡ compress f b s → t ≡ hashValue f h p (i + 1)
@@ -88,6 +89,6 @@ unfolding block
 length-block f p i h = let l = length-drop (i * blockBytes f) p in length-take-le (blockBytes f) (drop (i * blockBytes f) p) (omega arith)
 
 -- the number of blocks for the family of SHA-256, in its own numbers
-pub block-count32 : (m : List ℕ) → ((length m + 8) / 64 + 1) * 64 ≡ length (pad family32 m)
+pub block-count32 : (k : ℕ) (m : List ℕ) → ((length m + 8) / 64 + 1) * 64 ≡ length (padAfter family32 k m)
 unfolding blockBytes lengthBytes family32
-block-count32 m = block-count family32 (omega arith) m
+block-count32 k m = block-count family32 (omega arith) k m

@@ -5,6 +5,7 @@ pub mod Rotations
 pub mod Bytes
 pub mod Padding
 pub mod Blocks
+pub mod Continued
 pub mod Digest
 pub mod Schedule
 pub mod Groups

@@ -3,4 +3,5 @@ pub mod Family
 pub mod Padding
 pub mod Hash
 pub mod Groups
+pub mod Continued
 pub mod Sha256

@@ -8,6 +8,8 @@ mod words;
 use refusal::Refusal;
 use refusal::Verdict;
 ghost use mathlib.Core.Path.{_≡_};
+ghost use mathlib.Core.List.{_++_};
+ghost use lib.ListN.{replicate};
 ghost use Rattle.refusal.specs.Number.{numberOf};
 ghost use Rattle.sha256.specs.Sha256.{sha256Number, sha256Digest};
 
@@ -17,20 +19,43 @@ pub struct Hashed {
     pub digest: [u8; 32],
 }
 
+fn too_long() -> Hashed
+    ensures verdict { λ r. ⌜ numberOf (r .verdict) ≡ 2 ⌝ }
+    ensures digest { λ r. ⌜ r .digest ≡ replicate 32 0 ⌝ }
+{
+    Hashed {
+        verdict: Verdict::Refused(Refusal::BadLength),
+        digest: [0u8; 32],
+    }
+}
+
 // Refuses a message of 2^61 bytes or more, whose length in bits has no place in the padding.
 pub fn sha256(message: &[u8]) -> Hashed
     ensures verdict { λ r. ⌜ numberOf (r .verdict) ≡ sha256Number (now (message .entry)) ⌝ }
     ensures digest { λ r. ⌜ r .digest ≡ sha256Digest (now (message .entry)) ⌝ }
 {
     if message.len() >= 0x2000_0000_0000_0000 {
-        return Hashed {
-            verdict: Verdict::Refused(Refusal::BadLength),
-            digest: [0u8; 32],
-        };
+        return too_long();
     }
-    let d = message::digest(message);
+    let mut h = constants::initial_hash_value();
     Hashed {
         verdict: Verdict::Accepted,
-        digest: d,
+        digest: message::digest(&mut h, 0, message),
+    }
+}
+
+// The digest of a block followed by a message, which need not lie together.
+pub fn sha256_after_block(block: [u8; 64], message: &[u8]) -> Hashed
+    ensures verdict { λ r. ⌜ numberOf (r .verdict) ≡ sha256Number (block ++ now (message .entry)) ⌝ }
+    ensures digest { λ r. ⌜ r .digest ≡ sha256Digest (block ++ now (message .entry)) ⌝ }
+{
+    if message.len() >= 0x2000_0000_0000_0000 - 64 {
+        return too_long();
+    }
+    let mut h = constants::initial_hash_value();
+    block::update(&mut h, &block);
+    Hashed {
+        verdict: Verdict::Accepted,
+        digest: message::digest(&mut h, 1, message),
     }
 }

@@ -1,18 +1,19 @@
-// FIPS 180-4, 5.1, 5.2 and 6.2: the padded message, its blocks, the hash value over them, and the digest.
+// FIPS 180-4, 5.1, 5.2 and 6.2: the padded message, its blocks, the hash value over them, and the digest. The message m may follow k blocks that have been
+// hashed already: they count in its length, and nowhere else.
 use crate::block;
-use crate::constants;
 ghost use mathlib.Core.Path.{_≡_};
-ghost use Prim.Native.Nat.{_<_, _≤_, _+_, _*_, _/_, _^_};
+ghost use Prim.Native.Nat.{ℕ, _<_, _≤_, _+_, _*_, _/_, _^_};
 ghost use lib.ListN.{length, getD};
-ghost use Rattle.fips180.specs.Padding.{bigEndian, pad, «block»};
-ghost use Rattle.fips180.specs.Hash.{hashValue, hash, wordBytesOf};
-ghost use Rattle.fips180.specs.Sha256.{family32, sha256};
+ghost use Rattle.fips180.specs.Padding.{bigEndian, «block»};
+ghost use Rattle.fips180.specs.Hash.{hashValue, wordBytesOf};
+ghost use Rattle.fips180.specs.Continued.{padAfter, hashAfter};
+ghost use Rattle.fips180.specs.Sha256.{family32};
 ghost use Rattle.sha256.specs.Contracts.{NextPlace};
 
 // How many blocks the padded message has.
 fn block_count(m: &[u8]) -> usize
     requires { ⌜ length (now m) < 2 ^ 61 ⌝ }
-    ensures { λ r. ⌜ r * 64 ≡ length (pad family32 (now (m .entry))) ⌝ }
+    ensures { λ r. ⌜ ((k : ℕ) → r * 64 ≡ length (padAfter family32 k (now (m .entry)))) ⌝ }
 {
     (m.len() + 8) / 64 + 1
 }
@@ -27,9 +28,9 @@ fn length_byte(n: usize, j: usize) -> u8
 }
 
 // Byte i of the padded message.
-fn byte_at(m: &[u8], i: usize) -> u8
-    requires { ⌜ (length (now m) < 2 ^ 61) × (i < length (pad family32 (now m))) ⌝ }
-    ensures { λ r. ⌜ r ≡ getD (pad family32 (now (m .entry))) i 0 ⌝ }
+fn byte_at(k: usize, m: &[u8], i: usize) -> u8
+    requires { ⌜ (k * 64 + length (now m) < 2 ^ 61) × (i < length (padAfter family32 k (now m))) ⌝ }
+    ensures { λ r. ⌜ r ≡ getD (padAfter family32 k (now (m .entry))) i 0 ⌝ }
 {
     let n = m.len();
     if i < n {
@@ -42,7 +43,7 @@ fn byte_at(m: &[u8], i: usize) -> u8
     if i < end {
         return 0;
     }
-    length_byte(n, i - end)
+    length_byte(k * 64 + n, i - end)
 }
 
 // The next place of a block, after place j, whose byte may not be 0: past a message of n bytes come zeros, up to the length. Place j of the block is
@@ -61,51 +62,48 @@ fn next_place(n: usize, at: usize, j: usize) -> usize
 }
 
 // Puts block i of the padded message, which need not lie in the message, in out.
-fn put_block(m: &[u8], i: usize, out: &mut [u8; 64])
-    requires { ⌜ (length (now m) < 2 ^ 61) × ((i + 1) * 64 ≤ length (pad family32 (now m))) ⌝ }
-    ensures { λ _. ⌜ now (out .exit) ≡ «block» family32 (pad family32 (now (m .entry))) i ⌝ }
+fn put_block(k: usize, m: &[u8], i: usize, out: &mut [u8; 64])
+    requires { ⌜ (k * 64 + length (now m) < 2 ^ 61) × ((i + 1) * 64 ≤ length (padAfter family32 k (now m))) ⌝ }
+    ensures { λ _. ⌜ now (out .exit) ≡ «block» family32 (padAfter family32 k (now (m .entry))) i ⌝ }
 {
     *out = [0u8; 64];
     let base = i * 64;
     let mut j = 0;
     while j < 64 {
         let at = base + j;
-        out[j] = byte_at(m, at);
+        out[j] = byte_at(k, m, at);
         j = next_place(m.len(), at, j);
     }
 }
 
-// The hash value after the blocks that lie in the message itself: they are read where they are.
-fn whole_blocks(h: [u32; 8], m: &[u8]) -> [u32; 8]
-    ensures { λ r. ⌜ r ≡ hashValue family32 h (pad family32 (now (m .entry))) (length (now (m .entry)) / 64) ⌝ }
+// The hash value s brought forward by the blocks that lie in the message itself: they are read where they are.
+fn whole_blocks(s: &mut [u32; 8], m: &[u8])
+    ensures { λ _. ⌜ ((k : ℕ) → now (s .exit) ≡ hashValue family32 (now (s .entry)) (padAfter family32 k (now (m .entry))) (length (now (m .entry)) / 64)) ⌝ }
 {
-    let mut s = h;
     let full = m.len() / 64;
     let mut i = 0;
     while i < full {
         let a = i * 64;
         let e = a + 64;
-        block::update(&mut s, &m[a..e]);
+        block::update(s, &m[a..e]);
         i += 1;
     }
-    s
 }
 
-// The hash value of the whole message, from h: the last blocks, one or two, are put together.
-fn hash_value(h: [u32; 8], m: &[u8]) -> [u32; 8]
-    requires { ⌜ length (now m) < 2 ^ 61 ⌝ }
-    ensures { λ r. ⌜ r ≡ hash family32 h (now (m .entry)) ⌝ }
+// The hash value s brought forward by all that is left: the last blocks, one or two, are put together.
+fn hash_value(s: &mut [u32; 8], k: usize, m: &[u8])
+    requires { ⌜ k * 64 + length (now m) < 2 ^ 61 ⌝ }
+    ensures { λ _. ⌜ now (s .exit) ≡ hashAfter family32 (now (s .entry)) k (now (m .entry)) ⌝ }
 {
-    let mut s = whole_blocks(h, m);
+    whole_blocks(s, m);
     let mut i = m.len() / 64;
     let n = block_count(m);
     let mut b = [0u8; 64];
     while i < n {
-        put_block(m, i, &mut b);
-        block::update(&mut s, &b);
+        put_block(k, m, i, &mut b);
+        block::update(s, &b);
         i += 1;
     }
-    s
 }
 
 // Byte j of a word.
@@ -117,8 +115,8 @@ fn byte_of(x: u32, j: usize) -> u8
     ((x >> (place * 8)) % 256) as u8
 }
 
-fn bytes(s: [u32; 8]) -> [u8; 32]
-    ensures { λ r. ⌜ r ≡ wordBytesOf family32 8 s ⌝ }
+fn bytes(s: &[u32; 8]) -> [u8; 32]
+    ensures { λ r. ⌜ r ≡ wordBytesOf family32 8 (now (s .entry)) ⌝ }
 {
     let mut out = [0u8; 32];
     let mut i = 0;
@@ -129,10 +127,11 @@ fn bytes(s: [u32; 8]) -> [u8; 32]
     out
 }
 
-pub(crate) fn digest(m: &[u8]) -> [u8; 32]
-    requires { ⌜ length (now m) < 2 ^ 61 ⌝ }
-    ensures { λ r. ⌜ r ≡ sha256 (now (m .entry)) ⌝ }
+// The digest, from the hash value s after the k blocks, which is used up.
+pub(crate) fn digest(s: &mut [u32; 8], k: usize, m: &[u8]) -> [u8; 32]
+    requires { ⌜ k * 64 + length (now m) < 2 ^ 61 ⌝ }
+    ensures { λ r. ⌜ r ≡ wordBytesOf family32 8 (hashAfter family32 (now (s .entry)) k (now (m .entry))) ⌝ }
 {
-    let h = constants::initial_hash_value();
-    bytes(hash_value(h, m))
+    hash_value(s, k, m);
+    bytes(s)
 }

@@ -22,8 +22,8 @@ abbrev μ-loop : tie.MeasureT-loop
 loop-again : tie.Need-loop-again Inv-loop μ-loop
 unfolding family32
 loop-again c =
-    let at = c .before .before .loop in
-    let s : List ℕ = c .before .before .before .args .t1 in
+    let at = c .before .before .before .loop in
+    let s : List ℕ = c .before .before .before .before .args .s .now in
     let d : List ℕ = wordBytesOf family32 8 s in
     let l = length-words family32 8 s in
     let h : at .i < length d = omega arith in (
@@ -42,7 +42,7 @@ returns : tie.Need-returns Inv-loop μ-loop
 unfolding family32
 returns c =
     let at = c .before .loop in
-    let s : List ℕ = c .before .before .args .t1 in
+    let s : List ℕ = c .before .before .args .s .now in
     let l = length-words family32 8 s in
     sym (take-all (at .i) (at .out) (omega arith)) ∙ at .inv .1 .1 ∙ take-all (at .i) (wordBytesOf family32 8 s) (omega arith)
 

@@ -5,26 +5,32 @@ use native.Mathlib.Omega.{arith}
 use lib.ListN.{length}
 use borrow.Author.Needs.{needs}
 use Rattle.fips180.specs.Family.{blockBytes}
-use Rattle.fips180.specs.Padding.{pad, block}
-use Rattle.fips180.specs.Hash.{hashValue, hash}
+use Rattle.fips180.specs.Padding.{block}
+use Rattle.fips180.specs.Hash.{hashValue}
+use Rattle.fips180.specs.Continued.{padAfter, hashAfter}
 use Rattle.fips180.specs.Sha256.{family32}
 use Rattle.fips180.proofs.Blocks.{block-count32, length-block, hashValue-more}
 use Rattle.sha256.proofs.message.hash_value.Statement.{statement}
 use Rattle.sha256.proofs.message.hash_value.Tie as tie
 
 abbrev Inv-loop : tie.InvT-loop
-Inv-loop m s₀ i₀ n b₀ s i b = (n * 64 ≡ length (pad family32 m)) × ((i ≤ n) × ((h : List ℕ) → s₀ ≡ hashValue family32 h (pad family32 m) i₀ → s ≡ hashValue family32 h (pad family32 m) i))
+Inv-loop s₀ k m i₀ n b₀ s i b =
+    (n * 64 ≡ length (padAfter family32 k m))
+    × ((i ≤ n) × ((h : List ℕ) → s₀ ≡ hashValue family32 h (padAfter family32 k m) i₀ → s ≡ hashValue family32 h (padAfter family32 k m) i))
 
 abbrev μ-loop : tie.MeasureT-loop
-μ-loop m s₀ i₀ n b₀ s i b = n - i
+μ-loop s₀ k m i₀ n b₀ s i b = n - i
 
 loop-holds : tie.Need-loop-holds Inv-loop μ-loop
-loop-holds c = (search needs, (omega (arith, block-count32 (c .before .before .before .args .m .now)), λ h e. e))
+loop-holds c =
+    let start = c .before .before .before .before in
+    let e = c .block-count .ensures (start .args .k) in
+    (e, (omega (arith, block-count32 (start .args .k) (start .args .m .now)), λ h e. e))
 
 -- the buffer has the block's 64 bytes
-long : (m b : List ℕ) (i : ℕ) → (i + 1) * 64 ≤ length (pad family32 m) → b ≡ block family32 (pad family32 m) i → length b ≡ 64
+long : (p b : List ℕ) (i : ℕ) → (i + 1) * 64 ≤ length p → b ≡ block family32 p i → length b ≡ 64
 unfolding blockBytes family32
-long m b i h e = ap length e ∙ length-block family32 (pad family32 m) i (omega arith)
+long p b i h e = ap length e ∙ length-block family32 p i (omega arith)
 
 slice-aggregate-update : tie.Need-slice-aggregate-update Inv-loop μ-loop
 slice-aggregate-update c =
@@ -47,12 +53,13 @@ loop-again c =
     )
 
 returns : tie.Need-returns Inv-loop μ-loop
-unfolding hash blockBytes family32
+unfolding hashAfter blockBytes family32
 returns c =
     let at = c .before .loop in
-    let m : List ℕ = c .before .before .before .before .before .args .m .now in
-    let e : at .i ≡ length (pad family32 m) / 64 = omega arith in
-    at .inv .1 .1 _ (c .before .before .before .whole-blocks .ensures) ∙ ap (hashValue family32 _ (pad family32 m)) e
+    let start = c .before .before .before .before .before .before in
+    let p : List ℕ = padAfter family32 (start .args .k) (start .args .m .now) in
+    let e : at .i ≡ length p / 64 = omega arith in
+    at .inv .1 .1 _ (c .before .before .before .whole-blocks .ensures (start .args .k)) ∙ ap (hashValue family32 _ p) e
 
 pub hash-value-spec : {M : Type 1} → statement M
 hash-value-spec =

@@ -5,8 +5,9 @@ use native.Mathlib.Omega.{arith}
 use lib.ListN.{length-drop, length, take, drop, length-set}
 use lib.Seq.{getD-drop}
 use borrow.Author.Needs.{needs}
-use Rattle.fips180.specs.Padding.{pad, block}
+use Rattle.fips180.specs.Padding.{block}
 use Rattle.fips180.specs.Family.{blockBytes, lengthBytes}
+use Rattle.fips180.specs.Continued.{padAfter}
 use Rattle.fips180.specs.Sha256.{family32}
 use Rattle.fips180.proofs.Blocks.{block-count32}
 use Rattle.fips180.proofs.Padding.{pad-zero}
@@ -15,19 +16,21 @@ use Rattle.sha256.proofs.message.put_block.Statement.{statement}
 use Rattle.sha256.proofs.message.put_block.Tie as tie
 
 abbrev Inv-loop : tie.InvT-loop
-Inv-loop m i out₀ base j₀ out j = (j ≤ 64) × ((length out ≡ 64) × Filled (drop (i * 64) (pad family32 m)) out j)
+Inv-loop k m i out₀ base j₀ out j = (j ≤ 64) × ((length out ≡ 64) × Filled (drop (i * 64) (padAfter family32 k m)) out j)
 
 abbrev μ-loop : tie.MeasureT-loop
-μ-loop m i out₀ base j₀ out j = 64 - j
+μ-loop k m i out₀ base j₀ out j = 64 - j
 
 mul-base : tie.Need-mul-base Inv-loop μ-loop
-mul-base c = omega (arith, block-count32 (c .before .before .args .m .now))
+mul-base c = let start = c .before .before in omega (arith, block-count32 (start .args .k) (start .args .m .now))
 
 loop-holds : tie.Need-loop-holds Inv-loop μ-loop
-loop-holds c = (search needs, (search needs, filled-none (drop (c .before .before .args .i * 64) (pad family32 (c .before .before .args .m .now))) 64))
+loop-holds c =
+    let start = c .before .before in
+    (search needs, (search needs, filled-none (drop (start .args .i * 64) (padAfter family32 (start .args .k) (start .args .m .now))) 64))
 
 add-at : tie.Need-add-at Inv-loop μ-loop
-add-at c = omega (arith, block-count32 (c .before .before .before .before .args .m .now))
+add-at c = let start = c .before .before .before .before in omega (arith, block-count32 (start .args .k) (start .args .m .now))
 
 loop-less : tie.Need-loop-less Inv-loop μ-loop
 loop-less c = let l = c .next-place .ensures .later in omega arith
@@ -38,7 +41,7 @@ loop-again c =
     let start = c .before .before .before .before .before .before in
     let at = c .before .before .before .loop in
     let m : List ℕ = start .args .m .now in
-    let p : List ℕ = pad family32 m in
+    let p : List ℕ = padAfter family32 (start .args .k) m in
     let i : ℕ = start .args .i in
     let r = c .next-place .ensures in (
       r .within,
@@ -46,9 +49,9 @@ loop-again c =
         simp length-set (at .inv .1 .0),
         filled-more (drop (i * 64) p) (at .out) (at .j) (c .before .byte-at .result) (c .next-place .result) (omega arith)
             (c .before .byte-at .ensures ∙ sym (getD-drop (i * 64) p (at .j) 0)) (r .later)
-            (λ x h k.
-            let z = r .between x h k in
-            getD-drop (i * 64) p x 0 ∙ pad-zero family32 m (i * 64 + x) (omega (arith, z .0)) (omega (arith, z .1)))
+            (λ x h l.
+            let z = r .between x h l in
+            getD-drop (i * 64) p x 0 ∙ pad-zero family32 (start .args .k) m (i * 64 + x) (omega (arith, z .0)) (omega (arith, z .1)))
             (at .inv .1 .1),
       ),
     )
@@ -58,7 +61,7 @@ unfolding block blockBytes family32
 returns c =
     let start = c .before .before .before .before in
     let at = c .before .loop in
-    let p : List ℕ = pad family32 (start .args .m .now) in
+    let p : List ℕ = padAfter family32 (start .args .k) (start .args .m .now) in
     let d : List ℕ = drop (start .args .i * 64) p in
     let l = length-drop (start .args .i * 64) p in
     let e : at .j ≡ 64 = omega arith in
