@@ -1,0 +1,2 @@
+pub mod Derivation
+pub mod Examples
