@@ -4,57 +4,19 @@
 // well-known messages, and each was compared with Python's hashlib, an implementation of its own. Those of the pattern, whose byte i is i, are
 // hashlib's, at the lengths around each change in the number of padded blocks. None was taken from this code.
 use libc::STDOUT_FILENO;
+use vector_report::Tally;
 ghost use mathlib.Core.Path.{_≡_};
 ghost use lib.ListN.{length};
 
-// How many vectors were run, and how many of them differ.
-struct Tally {
-    run: u64,
-    differ: u64,
-}
-
 fn put(text: &[u8]) {
     io::write_all(STDOUT_FILENO, text);
-}
-
-fn digit(n: u8) -> u8 {
-    let k = n % 16;
-    if k < 10 { b'0' + k } else { b'a' + (k - 10) }
-}
-
-// A digest in hexadecimal.
-fn hex(digest: [u8; 32]) -> [u8; 64] {
-    let mut out = [0u8; 64];
-    let mut i: usize = 0;
-    while i < 32 {
-        let b = digest[i];
-        out[2 * i] = digit(b / 16);
-        out[2 * i + 1] = digit(b);
-        i += 1;
-    }
-    out
 }
 
 // Hashes a message and writes whether the digest is the expected one, or which other it is.
 fn compare(tally: Tally, message: &[u8], expected: &[u8; 64]) -> Tally {
     let hashed = sha256::sha256(message);
     let digest = hashed.digest;
-    let text = hex(digest);
-    let run = std::num::wrapping_add_u64(tally.run, 1);
-    if check::same(&text, expected) {
-        put(b": ok\n");
-        return Tally {
-            run: run,
-            differ: tally.differ,
-        };
-    }
-    put(b": ");
-    put(&text);
-    put(b"\n");
-    Tally {
-        run: run,
-        differ: std::num::wrapping_add_u64(tally.differ, 1),
-    }
+    tally.compare(&digest, expected)
 }
 
 fn vector(tally: Tally, name: &[u8], message: &[u8], expected: &[u8; 64]) -> Tally {
