@@ -48,6 +48,34 @@ uint8_t cerberus_meaning(uint8_t number, uint8_t *text, size_t text_len, size_t 
 /* The digest of a message. Refuses: 2 the message has 2^61 bytes or more. */
 uint8_t cerberus_sha256(const uint8_t *message, size_t message_len, uint8_t digest[32]);
 
+/* ---- HMAC-SHA-256 */
+
+/* The MAC of a text under a key (FIPS 198-1).
+ * Refuses: 2 the key has 2^61 bytes or more, or the text 2^61 - 64 or more. */
+uint8_t cerberus_hmac_sha256(const uint8_t *key, size_t key_len, const uint8_t *text, size_t text_len, uint8_t mac[32]);
+
+/* ---- device binding */
+
+#define CERBERUS_PAIRING_KEY_LEN 32
+
+/* The pairing key that two devices derive from their session key: NIST SP
+ * 800-108, counter mode, with HMAC-SHA-256, the label "pairing", no context and
+ * 256 bits out; the counter and the length have 32 bits, high byte first.
+ * Refuses: 3 pairing_key has not exactly 32 bytes; 2 the session key has 2^61
+ * bytes or more. */
+uint8_t cerberus_pairing_key(const uint8_t *session_key, size_t session_key_len,
+                             uint8_t *pairing_key, size_t pairing_key_len);
+
+/* ---- certificate slots */
+
+#define CERBERUS_NO_CHAIN 255
+
+/* What the slot mask of a challenge response says, in which slot 0 is the bit
+ * worth 1: *count becomes the number of slots that hold a certificate chain,
+ * and *lowest the lowest of them, or CERBERUS_NO_CHAIN if none does.
+ * Refuses nothing. */
+uint8_t cerberus_certificate_slots(uint8_t mask, uint8_t *count, uint8_t *lowest);
+
 /* ---- the measurement log: *count is its state, the number of entries */
 
 #define CERBERUS_LOG_ENTRY_LEN 87

@@ -1,5 +1,6 @@
 /* The controller calls from C: a measurement log with three events, which is compared with another
- * card's, and a manifest that comes in by Cerberus messages and is then asked for its version id.
+ * card's, a manifest that comes in by Cerberus messages and is then asked for its version id, and a
+ * card that is bound to its chassis.
  * The status is 1 if a call answers something that it shouldn't. */
 #include "cerberus.h"
 
@@ -175,8 +176,53 @@ static void transfer(void) {
            (unsigned long long)slot.active_id);
 }
 
+/* ---- device binding */
+
+/* What the slot mask of the card's challenge response says. */
+static void show_slots(uint8_t mask) {
+    uint8_t count, lowest;
+    expect(cerberus_certificate_slots(mask, &count, &lowest), CERBERUS_ACCEPTED, "certificate slots");
+    printf("  slot mask 0x%02x: %u certificate chains", mask, count);
+    if (lowest == CERBERUS_NO_CHAIN)
+        printf("\n");
+    else
+        printf(", the lowest in slot %u\n", lowest);
+}
+
+/* One side's pairing key, and its MAC under the session's MAC key, by which the other side knows it. */
+static void pair(const uint8_t session_key[32], const uint8_t mac_key[32], uint8_t mac[32]) {
+    uint8_t pairing_key[CERBERUS_PAIRING_KEY_LEN];
+    uint8_t answer = cerberus_pairing_key(session_key, 32, pairing_key, sizeof pairing_key);
+    expect(answer, CERBERUS_ACCEPTED, "pairing key");
+    expect(cerberus_hmac_sha256(mac_key, 32, pairing_key, sizeof pairing_key, mac), CERBERUS_ACCEPTED, "HMAC");
+}
+
+/* Card and chassis share the keys of one session, so that their pairing keys have the same MAC. */
+static void bind_to_chassis(void) {
+    uint8_t session_key[32], mac_key[32], card[32], chassis[32], too_long[CERBERUS_PAIRING_KEY_LEN + 1];
+    printf("device binding\n");
+    show_slots(0x0c);
+    show_slots(0x00);
+    memset(session_key, 0x11, sizeof session_key);
+    memset(mac_key, 0x22, sizeof mac_key);
+    pair(session_key, mac_key, card);
+    pair(session_key, mac_key, chassis);
+    printf("  MAC of the pairing key ");
+    print_bytes(card, sizeof card);
+    if (memcmp(card, chassis, sizeof card) != 0) {
+        fprintf(stderr, "card and chassis have different pairing keys\n");
+        exit(1);
+    }
+    uint8_t answer = cerberus_pairing_key(session_key, sizeof session_key, too_long, sizeof too_long);
+    expect(answer, CERBERUS_WRONG_BUFFER, "pairing key");
+    printf("  into %zu bytes: ", sizeof too_long);
+    print_answer(stdout, answer);
+    printf("\n");
+}
+
 int main(void) {
     measure();
     transfer();
+    bind_to_chassis();
     return 0;
 }

@@ -2,7 +2,9 @@
 //! the library is called, and what the model says of the same inputs.
 
 use crate::ffi;
-use crate::model::{Answer, Refusal, comparison, element, log, meaning, message, sha256, slot};
+use crate::model::{
+    Answer, Refusal, certificate_slots, comparison, element, hmac, log, meaning, message, pairing, sha256, slot,
+};
 
 /// What lent memory serves as.
 #[derive(Clone, Copy, PartialEq, Eq)]
@@ -19,6 +21,9 @@ use Kind::{Bytes, Value};
 pub enum Call {
     Meaning,
     Sha256,
+    HmacSha256,
+    PairingKey,
+    CertificateSlots,
     LogReset,
     LogRecord,
     LogRegister,
@@ -48,9 +53,12 @@ pub enum Call {
 
 use Call::*;
 
-pub const CALLS: [Call; 27] = [
+pub const CALLS: [Call; 30] = [
     Meaning,
     Sha256,
+    HmacSha256,
+    PairingKey,
+    CertificateSlots,
     LogReset,
     LogRecord,
     LogRegister,
@@ -95,6 +103,9 @@ impl Call {
         let (name, answers, numbers, lent): (_, &[u8], &[&str], &[(&str, Kind)]) = match self {
             Meaning => ("cerberus_meaning", &[0, 3, 5], &["number"], &[("text", Bytes), ("meaning_len", Value)]),
             Sha256 => ("cerberus_sha256", &[0, 2], &[], &[("message", Bytes), ("digest", Bytes)]),
+            HmacSha256 => ("cerberus_hmac_sha256", &[0, 2], &[], &[("key", Bytes), ("text", Bytes), ("mac", Bytes)]),
+            PairingKey => ("cerberus_pairing_key", &[0, 2, 3], &[], &[("session_key", Bytes), ("pairing_key", Bytes)]),
+            CertificateSlots => ("cerberus_certificate_slots", &[0], &["mask"], &[("count", Value), ("lowest", Value)]),
             LogReset => ("cerberus_log_reset", &[0, 3], &[], &[("count", Value), ("buffer", Bytes)]),
             LogRecord => (
                 "cerberus_log_record",
@@ -256,6 +267,9 @@ pub fn call_library(case: &Case, at: &[*mut u8]) -> u8 {
         match case.call {
             Meaning => ffi::cerberus_meaning(n[0] as u8, at[0], len(0), at[1].cast()),
             Sha256 => ffi::cerberus_sha256(at[0], len(0), at[1]),
+            HmacSha256 => ffi::cerberus_hmac_sha256(at[0], len(0), at[1], len(1), at[2]),
+            PairingKey => ffi::cerberus_pairing_key(at[0], len(0), at[1], len(1)),
+            CertificateSlots => ffi::cerberus_certificate_slots(n[0] as u8, at[0], at[1]),
             LogReset => ffi::cerberus_log_reset(at[0].cast(), at[1], len(1)),
             LogRecord => ffi::cerberus_log_record(at[0].cast(), n[0] as u8, n[1] as u32, at[1], at[2], len(2)),
             LogRegister => ffi::cerberus_log_register(n[0] as usize, n[1] as u8, at[0], len(0), at[1]),
@@ -363,6 +377,13 @@ fn apply_model(call: Call, n: &[u64], lent: &mut [Vec<u8>]) -> Answer<()> {
     match (call, lent) {
         (Meaning, [text, meaning_len]) => put_size(meaning_len, meaning::meaning(n[0] as u8, text)?),
         (Sha256, [message, digest]) => put(digest, sha256::sha256(message)),
+        (HmacSha256, [key, text, mac]) => put(mac, hmac::hmac(key, text)?),
+        (PairingKey, [session_key, pairing_key]) => pairing::pairing_key(session_key, pairing_key)?,
+        (CertificateSlots, [count, lowest]) => {
+            let (held, first) = certificate_slots::count_and_lowest(n[0] as u8);
+            put(count, [held]);
+            put(lowest, [first]);
+        }
         (LogReset, [count, buffer]) => put_size(count, log::reset(buffer)?),
         (LogRecord, [count, digest, buffer]) => {
             let digest = digest[..].try_into().unwrap();

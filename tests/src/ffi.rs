@@ -62,6 +62,17 @@ unsafe extern "C" {
 
     pub fn cerberus_sha256(message: *const u8, message_len: usize, digest: *mut u8) -> u8;
 
+    pub fn cerberus_hmac_sha256(key: *const u8, key_len: usize, text: *const u8, text_len: usize, mac: *mut u8) -> u8;
+
+    pub fn cerberus_pairing_key(
+        session_key: *const u8,
+        session_key_len: usize,
+        pairing_key: *mut u8,
+        pairing_key_len: usize,
+    ) -> u8;
+
+    pub fn cerberus_certificate_slots(mask: u8, count: *mut u8, lowest: *mut u8) -> u8;
+
     pub fn cerberus_log_reset(count: *mut usize, buffer: *mut u8, buffer_len: usize) -> u8;
     pub fn cerberus_log_record(
         count: *mut usize,

@@ -10,7 +10,10 @@ use std::process::Command;
 const LENGTHS: usize = 1100;
 const LONG: [usize; 4] = [4096, 65_537, 1_000_000, 1 << 20];
 
-/// The messages that were compared and those that differ, shown. The files go below `folder`.
+/// What was compared, in words.
+pub const WHAT: &str = "SHA-256 against sha256sum, every length 0 to 1,100";
+
+/// The number of messages that were compared, and those that differ, shown. The files go below `folder`.
 pub fn compare(folder: &Path, seed: u64) -> std::io::Result<(usize, Vec<String>)> {
     let messages = messages(&mut Rng::new(seed, "installed", 0));
     let digests = installed_digests(folder, &messages)?;
@@ -58,7 +61,8 @@ fn installed_digests(folder: &Path, messages: &[Vec<u8>]) -> std::io::Result<Vec
     Ok(digests)
 }
 
-fn digest_of_line(line: &str) -> Option<[u8; 32]> {
+/// The 32 bytes that a line begins with, in hex.
+pub fn digest_of_line(line: &str) -> Option<[u8; 32]> {
     let hex = line.get(..64)?;
     let mut digest = [0; 32];
     for (i, byte) in digest.iter_mut().enumerate() {

@@ -8,6 +8,7 @@ mod harness;
 mod installed;
 mod memory;
 mod model;
+mod openssl;
 mod paper;
 mod plan;
 mod report;
@@ -123,20 +124,23 @@ fn show_differences(tallies: &Tallies) {
     }
 }
 
-/// The number of messages that the machine's own SHA-256 hashes to something else.
+/// The number of values of which the machine's own tools say something else.
 fn installed(options: &Options) -> u64 {
-    match installed::compare(&options.scratch.join("sha256"), options.seed) {
-        Ok((messages, differences)) => {
+    let hashes = installed::compare(&options.scratch.join("sha256"), options.seed);
+    let macs = openssl::compare(&options.scratch.join("openssl"), options.seed);
+    show_installed(installed::WHAT, hashes) + show_installed(openssl::WHAT, macs)
+}
+
+fn show_installed(what: &str, compared: std::io::Result<(usize, Vec<String>)>) -> u64 {
+    match compared {
+        Ok((values, differences)) => {
             let count = differences.len();
-            println!(
-                "SHA-256 against sha256sum, every length 0 to 1,100: {} messages, {count} differences",
-                thousands(messages as u64)
-            );
+            println!("{what}: {} values, {count} differences", thousands(values as u64));
             differences.iter().take(SHOWN).for_each(|difference| println!("{difference}"));
             count as u64
         }
         Err(error) => {
-            println!("SHA-256 against sha256sum: {error}");
+            println!("{what}: {error}");
             1
         }
     }

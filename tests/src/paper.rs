@@ -1,5 +1,5 @@
-//! Document 01's examples at the edges, with the paper's own bytes: neither the library nor the
-//! model decides here what is right.
+//! Document 01's examples at the edges, published vectors and what document 02, Item 14, says of slots and
+//! pairing, with the papers' own bytes: neither the library nor the model decides here what is right.
 
 use crate::calls::{Call, Case, Outcome, call_model};
 use crate::ffi::slot_bytes;
@@ -23,8 +23,42 @@ const VECTORS: [(&[u8], &str); 4] = [
     ),
 ];
 
+/// Key, text and MAC of RFC 4231's test cases 1 to 4, 6 and 7 for HMAC-SHA-256, as CPython 3.11's Lib/test/test_hmac.py
+/// quotes them. It has no case 5, of which the RFC shows the first 16 bytes alone.
+fn rfc_4231() -> [(Vec<u8>, Vec<u8>, &'static str); 6] {
+    [
+        (vec![0x0b; 20], b"Hi There".to_vec(), "b0344c61d8db38535ca8afceaf0bf12b 881dc200c9833da726e9376c2e32cff7"),
+        (
+            b"Jefe".to_vec(),
+            b"what do ya want for nothing?".to_vec(),
+            "5bdcc146bf60754e6a042426089575c7 5a003f089d2739839dec58b964ec3843",
+        ),
+        (vec![0xaa; 20], vec![0xdd; 50], "773ea91e36800e46854db8ebd09181a7 2959098b3ef8c122d9635514ced565fe"),
+        ((1..=25).collect(), vec![0xcd; 50], "82558a389a443c0ea4cc819899f2083a 85f0faa3e578f8077a2e3ff46729665b"),
+        (
+            vec![0xaa; 131],
+            b"Test Using Larger Than Block-Size Key - Hash Key First".to_vec(),
+            "60e431591ee0b67f0d8a26aacbf5b77f 8e0bc6213728c5140546040f0ee37f54",
+        ),
+        (
+            vec![0xaa; 131],
+            b"This is a test using a larger than block-size key and a larger than block-size data. \
+              The key needs to be hashed before being used by the HMAC algorithm."
+                .to_vec(),
+            "9b09ffa71b942fcb27635fbcd5b0e944 bfdc63644f0713938a7f51535c3a35e2",
+        ),
+    ]
+}
+
+/// What HMAC is given for a pairing key, by NIST SP 800-108 and Item 14: the counter 1, the label, a zero byte, no
+/// context and the length, 256 bits.
+const PAIRING_TEXT: &str = "00 00 00 01 70 61 69 72 69 6e 67 00 00 00 01 00";
+
 pub fn run(harness: &mut Harness) {
     hashes(harness);
+    macs(harness);
+    pairing_keys(harness);
+    certificate_slots(harness);
     headers(harness);
     elements(harness);
     first_record(harness);
@@ -42,7 +76,7 @@ fn bytes(hex: &str) -> Vec<u8> {
 /// Holds the library, and the model too, to what the paper shows.
 fn expect(harness: &mut Harness, case: Case, answer: u8, lent: Vec<Vec<u8>>) {
     let expected = Outcome { answer, lent };
-    assert_eq!(call_model(&case), expected, "the model differs from document 01");
+    assert_eq!(call_model(&case), expected, "the model differs from the paper");
     harness.expect_outcome(case, expected);
 }
 
@@ -56,6 +90,36 @@ fn hashes(harness: &mut Harness) {
     for (message, digest) in VECTORS {
         let case = Case::new(Call::Sha256, &[], vec![message.to_vec(), vec![0; 32]]);
         expect(harness, case, 0, vec![message.to_vec(), bytes(digest)]);
+    }
+}
+
+fn mac_case(key: &[u8], text: &[u8]) -> Case {
+    Case::new(Call::HmacSha256, &[], vec![key.to_vec(), text.to_vec(), vec![0; 32]])
+}
+
+fn macs(harness: &mut Harness) {
+    for (key, text, mac) in rfc_4231() {
+        expect(harness, mac_case(&key, &text), 0, vec![key.clone(), text.clone(), bytes(mac)]);
+    }
+}
+
+/// A pairing key is its text's MAC, by the HMAC that the vectors hold; a buffer one byte off is 3.
+fn pairing_keys(harness: &mut Harness) {
+    for (session_key, _, _) in rfc_4231() {
+        let mut paired = call_model(&mac_case(&session_key, &bytes(PAIRING_TEXT)));
+        let case = |len: usize| Case::new(Call::PairingKey, &[], vec![session_key.clone(), vec![9; len]]);
+        expect(harness, case(32), 0, vec![session_key.clone(), paired.lent.swap_remove(2)]);
+        expect_unchanged(harness, case(31), 3);
+        expect_unchanged(harness, case(33), 3);
+    }
+}
+
+/// Slot 0 is the bit worth 1; 255 stands for none.
+fn certificate_slots(harness: &mut Harness) {
+    let examples = [(0x00, 0, 255), (0x01, 1, 0), (0x80, 1, 7), (0x06, 2, 1), (0x90, 2, 4), (0xff, 8, 0)];
+    for (mask, count, lowest) in examples {
+        let case = Case::new(Call::CertificateSlots, &[mask], vec![vec![9], vec![9]]);
+        expect(harness, case, 0, vec![vec![count], vec![lowest]]);
     }
 }
 

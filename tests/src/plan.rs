@@ -106,6 +106,18 @@ fn systematic_jobs(plan: &mut Plan) {
     plan.add("element-absurd-lengths", &OVER_ELEMENT, systematic::element::absurd_lengths);
     plan.add("meanings", &[Call::Meaning], systematic::meanings);
     plan.add("messages-to-hash", &[Call::Sha256], systematic::messages_to_hash);
+    binding_jobs(plan);
+}
+
+fn binding_jobs(plan: &mut Plan) {
+    plan.add("hmac-lengths", &[Call::HmacSha256], systematic::hmac::lengths);
+    plan.add("hmac-keys", &[Call::HmacSha256], systematic::hmac::keys);
+    plan.add("hmac-long", &[Call::HmacSha256], systematic::hmac::long);
+    plan.add("hmac-undefined-lengths", &[Call::HmacSha256], systematic::hmac::undefined_lengths);
+    plan.add("pairing-session-keys", &[Call::PairingKey], systematic::pairing::session_keys);
+    plan.add("pairing-buffer-lengths", &[Call::PairingKey], systematic::pairing::buffer_lengths);
+    plan.add("pairing-refusals-at-once", &[Call::PairingKey], systematic::pairing::refusals_at_once);
+    plan.add("certificate-slots", &[Call::CertificateSlots], systematic::certificate_slots);
 }
 
 fn comparison_jobs(plan: &mut Plan) {

@@ -19,8 +19,8 @@
     F(BUFFER_FIRST, "writers give 3 before 12", \
       "cerberus_region_write cerberus_rw_region_write cerberus_signed_image_write cerberus_root_cas_write") \
     F(REFUSES_ALL, "everything is refused", \
-      "cerberus_log_record cerberus_log_replay cerberus_log_text_verdict cerberus_log_compare cerberus_slot_activate " \
-      "cerberus_command cerberus_signed_image_read") \
+      "cerberus_hmac_sha256 cerberus_pairing_key cerberus_log_record cerberus_log_replay cerberus_log_text_verdict " \
+      "cerberus_log_compare cerberus_slot_activate cerberus_command cerberus_signed_image_read") \
     F(ONE_REGISTER, "every register reads as the same 32 bytes", "cerberus_log_register") \
     F(NOTHING_WRITTEN, "record says yes and writes nothing", "cerberus_log_record") \
     F(FIRST_ONLY, "the first entry is written, later ones only counted", "cerberus_log_record") \
@@ -52,8 +52,40 @@
     F(PLACE_FROM_1, "the place of a difference counts from 1", "cerberus_log_compare") \
     F(PLACE_OVER_LOG, "the place of a difference counts over the whole log", "cerberus_log_compare") \
     F(END_AT_AGREEMENT, "digests that agree have their end as a place", "cerberus_log_compare") \
-    F(PAST_BUFFER, "the byte behind the buffer is written", "cerberus_log_reset cerberus_slot_open") \
-    F(PADDING, "the padding is wrong where the length just fits", "cerberus_sha256") \
+    F(PAST_BUFFER, "the byte behind the buffer is written", "cerberus_log_reset cerberus_slot_open cerberus_pairing_key") \
+    F(PADDING, "the padding is wrong where the length just fits", \
+      "cerberus_sha256 cerberus_hmac_sha256 cerberus_pairing_key") \
+    F(PADS_EXCHANGED, "the inner and the outer pad are exchanged", "cerberus_hmac_sha256 cerberus_pairing_key") \
+    F(ONE_PAD, "the inner pad serves as the outer one too", "cerberus_hmac_sha256 cerberus_pairing_key") \
+    F(INNER_ALONE, "the outer hash is left out", "cerberus_hmac_sha256 cerberus_pairing_key") \
+    F(BLOCK_KEY_HASHED, "a key of exactly 64 bytes is hashed", "cerberus_hmac_sha256 cerberus_pairing_key") \
+    F(ANY_KEY_HASHED, "shorter keys are hashed too", "cerberus_hmac_sha256 cerberus_pairing_key") \
+    F(KEY_CUT, "a longer key is cut and not hashed", "cerberus_hmac_sha256 cerberus_pairing_key") \
+    F(KEY_AT_END, "a shorter key stands behind its zeros", "cerberus_hmac_sha256 cerberus_pairing_key") \
+    F(EMPTY_KEY, "an empty key is refused", "cerberus_hmac_sha256 cerberus_pairing_key") \
+    F(EMPTY_TEXT, "an empty text is refused", "cerberus_hmac_sha256") \
+    F(KEY_LIMIT, "a key of 2^61 bytes is taken", "cerberus_hmac_sha256 cerberus_pairing_key") \
+    F(TEXT_LIMIT, "a text of 2^61 - 64 bytes is taken", "cerberus_hmac_sha256") \
+    F(TEXT_OVERFLOW, "64 plus the text's length is taken modulo 2^64", "cerberus_hmac_sha256") \
+    F(MAC_CLEARED, "a refused MAC clears its answer", "cerberus_hmac_sha256") \
+    F(COUNTER_FROM_0, "the counter begins at 0", "cerberus_pairing_key") \
+    F(COUNTER_LOW_FIRST, "the counter is put low byte first", "cerberus_pairing_key") \
+    F(SEPARATOR_LOST, "the zero byte behind the label is lost", "cerberus_pairing_key") \
+    F(SECOND_ZERO, "the label has a zero byte of its own", "cerberus_pairing_key") \
+    F(LENGTH_IN_BYTES, "the length is put in bytes", "cerberus_pairing_key") \
+    F(LENGTH_LOW_FIRST, "the length is put low byte first", "cerberus_pairing_key") \
+    F(LONGER_PAIRING, "a pairing buffer of 33 bytes is taken", "cerberus_pairing_key") \
+    F(SHORTER_PAIRING, "a shorter pairing buffer gets the key's front", "cerberus_pairing_key") \
+    F(KEY_BEFORE_BUFFER, "2 comes before 3", "cerberus_pairing_key") \
+    F(REFUSED_WRITTEN, "a pairing buffer is refused and written", "cerberus_pairing_key") \
+    F(LOWEST_FROM_TOP, "the lowest slot is counted from the top", "cerberus_certificate_slots") \
+    F(HIGHEST_SLOT, "the highest slot is answered", "cerberus_certificate_slots") \
+    F(SLOTS_FROM_1, "slots are numbered from 1", "cerberus_certificate_slots") \
+    F(SLOT_0_UNCOUNTED, "slot 0 isn't counted", "cerberus_certificate_slots") \
+    F(SLOT_0_UNSEEN, "slot 0 is never the lowest", "cerberus_certificate_slots") \
+    F(NONE_0, "no slot is answered as 0", "cerberus_certificate_slots") \
+    F(NONE_8, "no slot is answered as 8", "cerberus_certificate_slots") \
+    F(NONE_KEPT, "without a slot the answer's memory stays", "cerberus_certificate_slots") \
     F(OPEN_KEEPS, "opening leaves the active buffer", "cerberus_slot_open") \
     F(IDLE_NUMBERS, "an idle state may have a total", \
       "cerberus_slot_prepare cerberus_slot_update cerberus_slot_activate cerberus_slot_manifest cerberus_command") \

@@ -2,6 +2,7 @@
 use Prim.Native.Nat.{ℕ, _+_, _*_}
 use mathlib.Core.Bool.{_||_, cond}
 use mathlib.Core.List.{List}
+use mathlib.Core.Option.{Option, none, some}
 use lib.ListN.{length}
 use lib.Dec.{leb, ltb, eqb}
 use Rattle.refusal.specs.declared.Refusal.{Refusal}
@@ -105,3 +106,9 @@ rootsHashNumber hashType b index =
 -- where the hash begins in the element
 abbrev pub rootsHashOffset : ℕ → ℕ → ℕ
 rootsHashOffset hashType index = rootsHeadLength + hashWidth hashType * index
+
+-- ---- certificate slots: the lowest slot, "or CERBERUS_NO_CHAIN if none does"
+
+abbrev pub slotNumber : Option ℕ → ℕ
+slotNumber none = 255
+slotNumber (some k) = k

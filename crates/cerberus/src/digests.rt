@@ -1,9 +1,11 @@
-// SHA-256.
+// SHA-256 and HMAC-SHA-256.
+use hmac::hmac_sha256;
 use refusal::Verdict;
 use sha256::sha256;
 ghost use mathlib.Core.Path.{_≡_};
 ghost use Rattle.refusal.specs.Rules.{accepted_then_else_};
 ghost use Rattle.sha256.specs.Sha256.{sha256Number, sha256Digest};
+ghost use Rattle.hmac.specs.HmacSha256.{hmacNumber, hmacMac};
 
 #[no_mangle]
 pub extern "C" fn cerberus_sha256(message: &[u8], digest: &mut [u8; 32]) -> u8
@@ -17,6 +19,23 @@ pub extern "C" fn cerberus_sha256(message: &[u8], digest: &mut [u8; 32]) -> u8
         Verdict::Accepted => {
             let bytes = hashed.digest;
             *digest = bytes;
+            0
+        }
+    }
+}
+
+#[no_mangle]
+pub extern "C" fn cerberus_hmac_sha256(key: &[u8], text: &[u8], mac: &mut [u8; 32]) -> u8
+    ensures number { λ r. ⌜ r ≡ hmacNumber (now (key .entry)) (now (text .entry)) ⌝ }
+    ensures mac { λ _. ⌜ now (mac .exit) ≡ (accepted hmacNumber (now (key .entry)) (now (text .entry)) then hmacMac (now (key .entry)) (now (text .entry)) else now (mac .entry)) ⌝ }
+{
+    let made = hmac_sha256(key, text);
+    let verdict = made.verdict;
+    match verdict {
+        Verdict::Refused(why) => why.number(),
+        Verdict::Accepted => {
+            let bytes = made.mac;
+            *mac = bytes;
             0
         }
     }

@@ -3,8 +3,10 @@
 
 pub mod comparison;
 pub mod element;
+pub mod hmac;
 pub mod log;
 pub mod message;
+pub mod pairing;
 pub mod sha256;
 pub mod slot;
 
@@ -36,6 +38,9 @@ impl Generator {
         match (call, &self.logs) {
             (Call::Meaning, _) => meaning(rng),
             (Call::Sha256, _) => sha256::case(rng),
+            (Call::HmacSha256, _) => hmac::case(rng),
+            (Call::PairingKey, _) => pairing::case(rng),
+            (Call::CertificateSlots, _) => certificate_slots_case(rng.byte(), rng),
             (Call::LogReset, _) => log::reset(rng),
             (Call::LogReplay, Some(pool)) => log::replay(pool, rng),
             (Call::LogTextVerdict, Some(pool)) => log::text_verdict(pool, rng),
@@ -63,6 +68,11 @@ fn meaning(rng: &mut Rng) -> Case {
 
 pub fn meaning_case(number: u8, text: Vec<u8>, rng: &mut Rng) -> Case {
     Case::new(Call::Meaning, &[u64::from(number)], vec![text, size(rng)])
+}
+
+/// The call for a slot mask.
+pub fn certificate_slots_case(mask: u8, rng: &mut Rng) -> Case {
+    Case::new(Call::CertificateSlots, &[u64::from(mask)], vec![rng.bytes(1), rng.bytes(1)])
 }
 
 /// Memory for an answer, of which a refused call leaves every byte.

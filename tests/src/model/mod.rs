@@ -1,11 +1,14 @@
-//! Document 01 and document 02, Item 13, in plain Rust, written from the papers alone. It is slow and
-//! plain on purpose: what it does should be seen at once to be what the paper says.
+//! Document 01 and document 02, Items 13 and 14, in plain Rust, written from the papers and standards
+//! alone. It is slow and plain on purpose: what it does should be seen at once to be what the paper says.
 
+pub mod certificate_slots;
 pub mod comparison;
 pub mod element;
+pub mod hmac;
 pub mod log;
 pub mod meaning;
 pub mod message;
+pub mod pairing;
 pub mod sha256;
 pub mod slot;
 

@@ -3,11 +3,13 @@
 
 pub mod comparison;
 pub mod element;
+pub mod hmac;
 pub mod log;
 pub mod message;
+pub mod pairing;
 pub mod slot;
 
-use crate::generate::{meaning_case, sha256};
+use crate::generate::{certificate_slots_case, meaning_case, sha256};
 use crate::harness::Harness;
 use crate::rng::Rng;
 
@@ -27,6 +29,15 @@ pub fn messages_to_hash(harness: &mut Harness, rng: &mut Rng) {
         let counting = (0..len).map(|i| i as u8).collect();
         for message in [vec![0; len], vec![0xff; len], vec![0x80; len], counting, rng.bytes(len)] {
             harness.run(sha256::of_message(message, rng));
+        }
+    }
+}
+
+/// Every slot mask, with several bytes where the answers go.
+pub fn certificate_slots(harness: &mut Harness, rng: &mut Rng) {
+    for mask in 0..=255 {
+        for _ in 0..20 {
+            harness.run(certificate_slots_case(mask, rng));
         }
     }
 }
