@@ -15,6 +15,7 @@ module _ (prf : List ℕ → List ℕ → List ℕ) (prfBits : ℕ) where
   iterated key label context L zero = []
   iterated key label context L (suc n) = iterated key label context L n ++ prf key (inputData label context L (suc n))
 
-  -- the leftmost L bits of result(⌈L / h⌉), where h bits are the function's output; L is whole bytes
+  -- the leftmost L bits, whole bytes, of result(⌈L / h⌉), where h, here prfBits, is the length of the function's output. The standard has an error for more
+  -- iterations than the counter has numbers; a pairing key takes one
   unfoldable pub counterMode : List ℕ → List ℕ → List ℕ → ℕ → List ℕ
   counterMode key label context L = take (L / 8) (iterated key label context L ((L + prfBits - 1) / prfBits))
