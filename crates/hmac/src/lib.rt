@@ -1,7 +1,8 @@
-// HMAC-SHA-256 (FIPS 198-1) of a text under a key, both of any length. What is worked out on the way, the padded key among it, stays in values of the
-// functions here and goes into no lent buffer.
+// HMAC-SHA-256 (FIPS 198-1) of a text under a key. What is worked out on the way, the padded key among it, stays in values of the functions here and goes
+// into no lent buffer.
 use refusal::Refusal;
 use refusal::Verdict;
+use sha256::TOO_LONG;
 use sha256::sha256;
 use sha256::sha256_after_block;
 ghost use mathlib.Core.Path.{_≡_};
@@ -66,10 +67,10 @@ pub fn hmac_sha256(key: &[u8], text: &[u8]) -> Mac
     ensures verdict { λ r. ⌜ numberOf (r .verdict) ≡ hmacNumber (now (key .entry)) (now (text .entry)) ⌝ }
     ensures mac { λ r. ⌜ r .mac ≡ hmacMac (now (key .entry)) (now (text .entry)) ⌝ }
 {
-    if key.len() >= 0x2000_0000_0000_0000 {
+    if key.len() >= TOO_LONG {
         return refused();
     }
-    if text.len() >= 0x2000_0000_0000_0000 - 64 {
+    if text.len() >= TOO_LONG - 64 {
         return refused();
     }
     let block = key_block(key);

@@ -13,6 +13,7 @@ use Rattle.pairing.specs.CounterMode.{counterMode}
 unfoldable pub label : List ℕ
 label = 0x70 ∷ 0x61 ∷ 0x69 ∷ 0x72 ∷ 0x69 ∷ 0x6e ∷ 0x67 ∷ []
 
+-- 256 bits are the function's output and what is asked for
 unfoldable pub pairingKey : List ℕ → List ℕ
 pairingKey key = counterMode hmacSha256 256 key label [] 256
 

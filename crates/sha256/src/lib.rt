@@ -13,6 +13,9 @@ ghost use lib.ListN.{replicate};
 ghost use Rattle.refusal.specs.Number.{numberOf};
 ghost use Rattle.sha256.specs.Sha256.{sha256Number, sha256Digest};
 
+// From this length on a message has no digest: its length in bits has no place in the padding.
+pub const TOO_LONG: usize = 0x2000_0000_0000_0000;
+
 // A digest; zeros where the message is refused.
 pub struct Hashed {
     pub verdict: Verdict,
@@ -29,12 +32,12 @@ fn too_long() -> Hashed
     }
 }
 
-// Refuses a message of 2^61 bytes or more, whose length in bits has no place in the padding.
+// Refuses a message of 2^61 bytes or more.
 pub fn sha256(message: &[u8]) -> Hashed
     ensures verdict { λ r. ⌜ numberOf (r .verdict) ≡ sha256Number (now (message .entry)) ⌝ }
     ensures digest { λ r. ⌜ r .digest ≡ sha256Digest (now (message .entry)) ⌝ }
 {
-    if message.len() >= 0x2000_0000_0000_0000 {
+    if message.len() >= TOO_LONG {
         return too_long();
     }
     let mut h = constants::initial_hash_value();
@@ -49,7 +52,7 @@ pub fn sha256_after_block(block: [u8; 64], message: &[u8]) -> Hashed
     ensures verdict { λ r. ⌜ numberOf (r .verdict) ≡ sha256Number (block ++ now (message .entry)) ⌝ }
     ensures digest { λ r. ⌜ r .digest ≡ sha256Digest (block ++ now (message .entry)) ⌝ }
 {
-    if message.len() >= 0x2000_0000_0000_0000 - 64 {
+    if message.len() >= TOO_LONG - 64 {
         return too_long();
     }
     let mut h = constants::initial_hash_value();
