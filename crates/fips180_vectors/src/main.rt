@@ -5,6 +5,7 @@
 // hashlib's, at the lengths around each change in the number of padded blocks. None was taken from this code.
 use libc::STDOUT_FILENO;
 use vector_report::Tally;
+use vector_report::counting::counting_bytes;
 ghost use mathlib.Core.Path.{_≡_};
 ghost use lib.ListN.{length};
 
@@ -232,16 +233,6 @@ fn four_blocks(tally: Tally, m: &[u8]) -> Tally {
         256,
         b"40aff2e9d2d8922e47afd4648e6967497158785fbd1da870e7110266bf944880",
     )
-}
-
-fn counting_bytes() -> [u8; 256] {
-    let mut m = [0u8; 256];
-    let mut i: usize = 0;
-    while i < 256 {
-        m[i] = i as u8;
-        i += 1;
-    }
-    m
 }
 
 fn boundaries(tally: Tally) -> Tally {

@@ -1,4 +1,6 @@
 // A line for each vector that a program runs, and how many there were: what was computed is compared with the hexadecimal text that was published.
+pub mod counting;
+
 use libc::STDOUT_FILENO;
 ghost use mathlib.Core.Path.{_≡_};
 ghost use Rattle.vector_report.specs.Counts.{oneMore, differing};
