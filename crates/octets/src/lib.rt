@@ -97,10 +97,20 @@ pub fn replace(dst: &mut [u8], src: &[u8])
     zero_from(dst, src.len());
 }
 
+// Lists of one length are read to their ends, so that the time tells nothing of where a MAC or a digest differs.
 pub fn same(a: &[u8], b: &[u8]) -> bool
     ensures { λ r. ⌜ r ≡ sameBytes (now (a .entry)) (now (b .entry)) ⌝ }
 {
-    check::same(a, b)
+    if a.len() != b.len() {
+        return false;
+    }
+    let mut difference: u8 = 0;
+    let mut i: usize = 0;
+    while i < a.len() {
+        difference = difference | (a[i] ^ b[i]);
+        i += 1;
+    }
+    difference == 0
 }
 
 pub fn all_zero(b: &[u8]) -> bool
