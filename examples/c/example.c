@@ -3,6 +3,7 @@
  * card that is bound to its chassis.
  * The status is 1 if a call answers something that it shouldn't. */
 #include "cerberus.h"
+#include "same_bytes.h"
 
 #include <stdio.h>
 #include <stdlib.h>
@@ -209,7 +210,7 @@ static void bind_to_chassis(void) {
     pair(session_key, mac_key, chassis);
     printf("  MAC of the pairing key ");
     print_bytes(card, sizeof card);
-    if (memcmp(card, chassis, sizeof card) != 0) {
+    if (!same_bytes(card, chassis, sizeof card)) {
         fprintf(stderr, "card and chassis have different pairing keys\n");
         exit(1);
     }
