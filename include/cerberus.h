@@ -1,14 +1,41 @@
 /* The controller calls of a Project Cerberus root of trust, for C.
  *
- * Each call takes any numbers, any bytes and any lengths, ends, and touches no
- * memory but what it is lent. It answers 0 where it is accepted, or one refusal
- * number; a refused call changes nothing that it was lent, neither states nor
- * buffers nor answers. "Refuses" below lists a call's numbers in the order in
- * which they are asked: the first that applies is given. Numbers of several
- * bytes in messages, logs and elements are little-endian.
+ * Each call takes any numbers, any bytes and any lengths below 2^63, ends, and
+ * touches no memory but what it is lent and its stack. It answers 0 where it is
+ * accepted, or one refusal number; a refused call changes nothing that it was
+ * lent, neither states nor buffers nor answers. "Refuses" below lists a call's
+ * numbers in the order in which they are asked: the first that applies is given.
+ * Numbers of several bytes in messages, logs and elements are little-endian.
  *
- * A pointer that goes with a length may be anything but NULL where the length
- * is 0. Buffers that one call writes must not overlap any other that it is lent.
+ * The caller sees to this, which no call can check:
+ * - A pointer that goes with a length points to that many bytes, and the length
+ *   is below 2^63, as memory's always is. (A slice in Rattle has fewer than 2^63
+ *   bytes; the proofs and the compiler count on it.)
+ * - No pointer is NULL, not even one whose length is 0: that one may be any
+ *   other address.
+ * - Pointers to size_t, uint32_t and cerberus_slot are aligned as C aligns
+ *   these. Pointers to bytes, and to cerberus_pmr_comparison, which is made of
+ *   bytes, may lie anywhere.
+ * - What a call writes, be it a buffer, a state or an answer, overlaps nothing
+ *   else that the call is lent. What it only reads may overlap.
+ * - Nothing else writes to what a call is lent, nor reads what it writes, until
+ *   it returns. The library has no state of its own, so that threads may make
+ *   calls at the same time where each writes to its own states and buffers.
+ *
+ * The library needs memcpy, memset and under 3 KiB of stack, and nothing else:
+ * no heap, no input or output, no start-up. It is x86-64 code that uses the SSE2
+ * registers and the 128 bytes below the stack pointer, as the System V ABI has it.
+ *
+ * Time: in cerberus_sha256, cerberus_hmac_sha256 and cerberus_pairing_key no
+ * branch and no address depends on the bytes of message, key or text, only on
+ * their lengths (tests/memcheck shows it of the library as built; no proof does).
+ * A caller that compares MACs reads them to their ends (examples/c/same_bytes.h).
+ *
+ * Memory: these three calls wipe nothing. The key, the key with its pad, the
+ * inner digest, the end of the message and the result are left on the stack
+ * below the caller's frame, and parts of them in registers. A caller to whom this
+ * matters wipes that part of the stack after the call, or makes the call on a
+ * stack of its own and wipes that.
  */
 #ifndef CERBERUS_H
 #define CERBERUS_H
