@@ -13,7 +13,7 @@ ghost use Rattle.manifest.specs.Calls.{openNumber, openBuffer, openingRe
 
 impl Slot {
     // A slot with no active manifest.
-    pub fn fresh(magic: u16) -> Slot
+    pub(crate) fn fresh(magic: u16) -> Slot
         ensures { λ r. ⌜ r ≡ fresh magic ⌝ }
     {
         Slot {
