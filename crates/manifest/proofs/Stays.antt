@@ -1,6 +1,6 @@
--- What stays with each call: a sound slot, its magic number, and an active id that never falls.
-use Prim.Native.Nat.{ℕ, _+_, _≤_}
-use mathlib.Core.Path.{_≡_, refl, _∙_}
+-- What stays with each call: a sound slot, its magic number, and the active manifest, which an accepted activate alone changes, for one with a higher id.
+use Prim.Native.Nat.{ℕ, _+_, _<_, _≤_}
+use mathlib.Core.Path.{_≡_, refl, sym, subst, _∙_}
 use mathlib.Core.Bool.{Bool, false, not}
 use mathlib.Core.Logic.{⊎-elim}
 use mathlib.Core.List.{List}
@@ -15,7 +15,7 @@ use Rattle.manifest.specs.Slot.{bufferLength, shortest, versionId, total
 use Rattle.manifest.specs.Sequences.{Held, Call, prepare, update, activate, answered, after, Sound}
 use Rattle.manifest.proofs.States.{inside, inside-active, sound-parts, parts-sound, transfer-bounds, advanced-sound, advanced-received, complete}
 use Rattle.manifest.proofs.Accepted.{lent-accepted, prepare-accepted, update-accepted, activate-accepted}
-use Rattle.manifest.proofs.Steps.{does, step-alone}
+use Rattle.manifest.proofs.Steps.{does, after-yes, step-alone}
 
 -- ---- a sound slot stays sound
 
@@ -68,7 +68,7 @@ accepted-sound (activate good) h s e =
 pub stays : (c : Call) (h : Held) → Sound h → Sound (after c h)
 stays c h s = step-alone Sound c h s (accepted-sound c h s)
 
--- ---- the magic number stays, and the active id never falls
+-- ---- the magic number stays
 
 pub magic : (c : Call) (h : Held) → after c h .slot .magic ≡ h .slot .magic
 magic c h = step-alone (λ k. k .slot .magic ≡ h .slot .magic) c h refl (λ e. does-magic c)
@@ -78,6 +78,22 @@ magic c h = step-alone (λ k. k .slot .magic ≡ h .slot .magic) c h refl (λ e.
     does-magic (update payload) = refl
     does-magic (activate good) = refl
 
+-- ---- the active manifest
+
+-- the id that an accepted activate finds is above that of the manifest that is active
+activate-above : (good : Bool) (h : Held) → (h .slot .active .length ≡ 0 → ⊥) → answered (activate good) h ≡ 0
+    → h .slot .active .id .0 < versionId (h .pending)
+activate-above good h some e =
+    let id : ℕ = h .slot .active .id .0 in
+    ⊎-elim
+    (λ (n : not (eqb (h .slot .active .length) 0) ≡ false). absurd (some (eqb-true (h .slot .active .length) 0 (not-false _ n))))
+    (λ (n : leb (versionId (h .pending)) id ≡ false). leb-false (versionId (h .pending)) id n)
+    (and-no (not (eqb (h .slot .active .length) 0)) (leb (versionId (h .pending)) id) (activate-accepted (h .slot) (h .pending) (h .active) good e .2))
+
+pub above : (good : Bool) (h : Held) → (h .slot .active .length ≡ 0 → ⊥) → answered (activate good) h ≡ 0
+    → h .slot .active .id .0 < after (activate good) h .slot .active .id .0
+above good h some e = subst (λ (k : Held). h .slot .active .id .0 < k .slot .active .id .0) (sym (after-yes (activate good) h e)) (activate-above good h some e)
+
 -- a slot whose active id is at least that of h
 abbrev pub Forward : Held → Held → Type 0
 Forward h k = (k .slot .active .length ≡ 0 → ⊥) × (h .slot .active .id .0 ≤ k .slot .active .id .0)
@@ -86,15 +102,21 @@ accepted-forward : (c : Call) (h : Held) → (h .slot .active .length ≡ 0 → 
 accepted-forward (prepare total) h some e = (some, omega arith)
 accepted-forward (update payload) h some e = (some, omega arith)
 accepted-forward (activate good) h some e =
-    let k = activate-accepted (h .slot) (h .pending) (h .active) good e in
-    let s = lent-accepted (h .slot) (h .pending) (h .active) (k .0) in
-    let w = activate-whole h good s e in (
-      (λ z. omega (arith, z, w .1)),
-      ⊎-elim
-          (λ (n : not (eqb (h .slot .active .length) 0) ≡ false). absurd (some (eqb-true (h .slot .active .length) 0 (not-false _ n))))
-          (λ (n : leb (versionId (h .pending)) (h .slot .active .id .0) ≡ false). omega (arith, leb-false (versionId (h .pending)) (h .slot .active .id .0) n))
-          (and-no (not (eqb (h .slot .active .length) 0)) (leb (versionId (h .pending)) (h .slot .active .id .0)) (k .2)),
-    )
+    let s = lent-accepted (h .slot) (h .pending) (h .active) (activate-accepted (h .slot) (h .pending) (h .active) good e .0) in
+    let w = activate-whole h good s e in
+    ((λ z. omega (arith, z, w .1)), omega (arith, activate-above good h some e))
 
 pub forward : (c : Call) (h : Held) → (h .slot .active .length ≡ 0 → ⊥) → Forward h (after c h)
 forward c h some = step-alone (Forward h) c h (some, omega arith) (accepted-forward c h some)
+
+-- a slot with the active manifest of h
+abbrev pub SameActive : Held → Held → Type 0
+SameActive h k = (k .slot .active ≡ h .slot .active) × (k .active ≡ h .active)
+
+pub alone : (c : Call) (h : Held) → ((good : Bool) → c ≡ activate good → answered c h ≡ 0 → ⊥) → SameActive h (after c h)
+alone c h other = step-alone (SameActive h) c h (refl, refl) (accepted-same c other)
+  where
+    accepted-same : (c : Call) → ((good : Bool) → c ≡ activate good → answered c h ≡ 0 → ⊥) → answered c h ≡ 0 → SameActive h (does c h)
+    accepted-same (prepare total) other e = (refl, refl)
+    accepted-same (update payload) other e = (refl, refl)
+    accepted-same (activate good) other e = absurd (other good refl e)

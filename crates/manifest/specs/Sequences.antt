@@ -92,6 +92,12 @@ pub record SlotClaim : Type 0 where
   -- while a manifest is active, one stays active and its id never falls
   pub forward : (c : Call) (h : Held) → (h .slot .active .length ≡ 0 → ⊥)
       → (after c h .slot .active .length ≡ 0 → ⊥) × (h .slot .active .id .0 ≤ after c h .slot .active .id .0)
+  -- "an id not above its id is 9": an accepted activate over an active manifest has an id above it
+  pub above : (good : Bool) (h : Held) → (h .slot .active .length ≡ 0 → ⊥) → answered (activate good) h ≡ 0
+      → h .slot .active .id .0 < after (activate good) h .slot .active .id .0
+  -- and which manifest is active changes with an accepted activate alone: its length, its id and its buffer stay with every other call
+  pub alone : (c : Call) (h : Held) → ((good : Bool) → c ≡ activate good → answered c h ≡ 0 → ⊥)
+      → (after c h .slot .active ≡ h .slot .active) × (after c h .active ≡ h .active)
   -- every list of calls from an accepted opening leaves a sound slot, in which the reader gives back exactly the bytes that the updates brought,
   -- in order, whatever pieces they came in: those of the transfer under way as pending, and those that the last accepted activate took as active
   pub reads : (magic : ℕ) (pending active : List ℕ) → openNumber pending active ≡ 0 → (cs : List Call)
