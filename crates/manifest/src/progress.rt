@@ -1,9 +1,9 @@
 // The manifest that is arriving: how much of it there is to be, and how much there is.
 use crate::Slot;
 use crate::Transfer;
+use std::num::wrapping_add_usize;
 ghost use mathlib.Core.Path.{_≡_};
-ghost use mathlib.Core.Bool.{cond};
-ghost use Rattle.manifest.specs.Slot.{totalOf, receivedOf, isIdle, incomplete, tooLong, advanced};
+ghost use Rattle.manifest.specs.Slot.{totalOf, receivedOf, isIdle, incomplete, tooLong, advanced, wrapped};
 ghost use Rattle.manifest.specs.Calls.{transferring};
 
 impl Transfer {
@@ -65,18 +65,15 @@ impl Transfer {
         }
     }
 
-    // The transfer with n bytes more; as it is where n bytes are too many.
+    // The transfer with n bytes more, whether or not they may come: the count wraps.
     pub(crate) fn advanced(self, n: usize) -> Transfer
-        ensures { λ r. ⌜ r ≡ cond (tooLong self n) self (advanced self n) ⌝ }
+        ensures { λ r. ⌜ r ≡ wrapped (advanced self n) ⌝ }
     {
-        if self.too_long(n) {
-            return self;
-        }
         match self {
             Transfer::Idle => self,
             Transfer::Receiving { total, received } => Transfer::Receiving {
                 total,
-                received: received + n,
+                received: wrapping_add_usize(received, n),
             },
         }
     }

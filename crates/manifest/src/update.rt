@@ -48,6 +48,8 @@ impl Slot {
     {
         let verdict = self.update_verdict(payload, pending, active);
         let transfer = self.transfer;
+        let received = transfer.received();
+        // The slot with the payload counted, which only an accepted update answers.
         let next = self.transferring(transfer.advanced(payload.len()));
         match verdict {
             Verdict::Refused(_) => Answer {
@@ -55,7 +57,7 @@ impl Slot {
                 slot: self,
             },
             Verdict::Accepted => {
-                octets::put(pending, transfer.received(), payload);
+                octets::put(pending, received, payload);
                 Answer {
                     verdict,
                     slot: next,

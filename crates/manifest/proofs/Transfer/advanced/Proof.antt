@@ -1,24 +1,18 @@
 use mathlib.Core.Path.{sym, ap, _∙_}
-use native.Mathlib.Omega.{arith}
 use Rattle.manifest.specs.declared.Transfer.{Transfer}
-use Rattle.manifest.specs.Slot.{advanced}
-use Rattle.manifest.proofs.States.{room}
+use Rattle.manifest.specs.declared.Transfer.the-variants.{Receiving}
+use Rattle.manifest.specs.Slot.{advanced, wrapped}
 use borrow.Author.Needs.{needs}
 use Rattle.manifest.proofs.Transfer.advanced.Statement.{statement}
 use Rattle.manifest.proofs.Transfer.advanced.Tie as tie
 
-returns : tie.Need-returns
-returns c = sym (rw (sym (c .before .too-long .ensures) ∙ c .if1 .taken))
-
-add-t7 : tie.Need-add-t7
-add-t7 c = record { fits = omega (arith, room (c .before .before .before .before .before .args .n) (c .before .self .given .1) (sym (c .before .before .before .before .too-long .ensures) ∙ c .before .before .before .if1 .left)) }
-
-returns-3 : tie.Need-returns-3
-returns-3 c =
-    ap (λ (t : Transfer). advanced t (c .before .before .before .before .before .args .n)) (sym (c .before .self .given .1))
-    ∙ sym (rw (sym (c .before .before .before .before .too-long .ensures) ∙ c .before .before .before .if1 .left))
+returns-2 : tie.Need-returns-2
+returns-2 c =
+    let g = c .before .before .self .given in
+    ap (Receiving (g .0 .0)) (c .wrapping-add-usize .ensures)
+    ∙ ap (λ (t : Transfer). wrapped (advanced t (c .before .before .before .before .args .n))) (sym (g .1))
 
 pub advanced-spec : {M : Type 1} → statement M
 advanced-spec =
     tie.close
-    (tie.spec (λ c κs. search needs) returns (λ c. search needs) (λ c. search needs) add-t7 (λ c. search needs) returns-3)
+    (tie.spec (λ c. search needs) (λ c. search needs) (λ c κs. search needs) (λ c. search needs) returns-2)
