@@ -73,8 +73,7 @@ module _ (s : Slot) (pending active : List ℕ) where
       (p .0, q .0, when-accepted 9 (stale s pending) signed (omega arith) (r .1) .0)
 
   pub activate-fits : (good : Bool) → activateNumber s good pending active ≡ 0
-      → (totalOf (s .transfer) ≤ length pending) × (totalOf (s .transfer) ≤ length active) × (length active ≡ bufferLength)
+      → (totalOf (s .transfer) ≤ bufferLength) × (length pending ≡ bufferLength) × (length active ≡ bufferLength)
   activate-fits good e =
       let h = lent-accepted (activate-accepted good e .0) in
-      let t = transfer-bounds (s .transfer) (sound-parts s (h .slot) .1) in
-      (omega (arith, h .pending), omega (arith, h .active), h .active)
+      (transfer-bounds (s .transfer) (sound-parts s (h .slot) .1) .1, h .pending, h .active)

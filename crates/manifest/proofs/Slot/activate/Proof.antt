@@ -1,4 +1,6 @@
+use Prim.Native.Nat.{ℕ, _≤_}
 use mathlib.Core.Path.{_≡_, sym, _∙_}
+use mathlib.Core.List.{List}
 use native.Mathlib.Omega.{arith}
 use lib.ListN.{length, take}
 use lib.Seq.{length-take-le}
@@ -12,6 +14,10 @@ use borrow.Author.Needs.{needs}
 use Rattle.manifest.proofs.Slot.activate.Statement.{statement}
 use Rattle.manifest.proofs.Slot.activate.Tie as tie
 
+-- the part of a buffer that it has room for
+part-length : {n : ℕ} (p : List ℕ) → n ≤ length p → n ≡ length (take n p)
+part-length {n} p h = sym (length-take-le n p h)
+
 slice-aggregate-replace : tie.Need-slice-aggregate-replace
 slice-aggregate-replace c =
     let v = c .before .before .before .before .before in
@@ -19,7 +25,7 @@ slice-aggregate-replace c =
     let p = now (a .pending) in
     let e : activateNumber (a .self) (a .signature-good) p (now (a .active)) ≡ 0 = says-yes (v .activate-verdict .ensures) (c .before .before .before .enum-told2 .given .1) in
     let k = activate-fits (a .self) p (now (a .active)) (a .signature-good) e in
-    sym (length-take-le (c .before .before .total .result) p (omega (arith, k, c .before .before .total .ensures)))
+    part-length p (omega (arith, k, c .before .before .total .ensures))
 
 returns : tie.Need-returns
 returns c =
