@@ -9,6 +9,7 @@ pub use header::header_verdict;
 use manifest::Slot;
 use refusal::Refusal;
 use refusal::Verdict;
+use refusal::first;
 ghost use mathlib.Core.Path.{_≡_};
 ghost use Rattle.refusal.specs.Number.{numberOf};
 ghost use Rattle.refusal.specs.Rules.{first_then_};
@@ -43,10 +44,8 @@ fn message_verdict(
     ensures { λ r. ⌜ numberOf r ≡ (first readyNumber slot (now (pending .entry)) (now (active .entry)) (now (response .entry)) then headerNumber (now (message .entry))) ⌝ }
 {
     let ready = ready_verdict(slot, pending, active, response);
-    match ready {
-        Verdict::Refused(_) => ready,
-        Verdict::Accepted => header_verdict(message),
-    }
+    let header = header_verdict(message);
+    first(ready, header)
 }
 
 // The one table of commands: what each does with its body.

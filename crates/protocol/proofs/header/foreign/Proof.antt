@@ -4,15 +4,16 @@ use native.Mathlib.Omega.{arith}
 use borrow.Author.Needs.{needs}
 use borrow.Author.Tests.{lt-ltb, not-true, not-false}
 use denote.Ref.{now}
+use lib.ListN.{length}
 use lib.Seq.{length-take-le}
-use Rattle.protocol.specs.Header.{flags, reservedSet, foreign}
+use Rattle.protocol.specs.Header.{headerLength, flags, reservedSet, foreign}
 use Rattle.protocol.proofs.Flags.{foreign-is}
 use Rattle.protocol.proofs.header.foreign.Statement.{statement}
 use Rattle.protocol.proofs.header.foreign.Tie as tie
 
 returns : tie.Need-returns
 unfolding foreign
-returns c = sym (rw (lt-ltb _ _ (c .if1 .taken)))
+returns c = sym (rw (lt-ltb (length (now (c .before .before .args .message))) headerLength (omega arith)))
 
 slice-aggregate-same : tie.Need-slice-aggregate-same
 slice-aggregate-same c = sym (length-take-le 3 (now (c .before .before .before .args .message)) (omega arith))
