@@ -1,4 +1,4 @@
--- What stays with each call: a sound slot, its magic number, and the active manifest, which an accepted activate alone changes, for one with a higher id.
+-- What stays with each call: a sound slot, its magic number, and the active manifest, which only an accepted activate changes, for a higher id.
 use Prim.Native.Nat.{ℕ, _+_, _<_, _≤_}
 use mathlib.Core.Path.{_≡_, refl, sym, subst, _∙_}
 use mathlib.Core.Bool.{Bool, false, not}

@@ -90,7 +90,7 @@ abbrev pub advanced : Transfer → ℕ → Transfer
 advanced Idle n = Idle
 advanced (Receiving total received) n = Receiving total (received + n)
 
--- a transfer whose bytes are counted modulo 2^64
+-- a transfer as the code counts it, modulo 2^64; a sound one's count never wraps
 abbrev pub wrapped : Transfer → Transfer
 wrapped Idle = Idle
 wrapped (Receiving total received) = Receiving total (received % 2 ^ 64)

@@ -14,7 +14,7 @@ use borrow.Author.Needs.{needs}
 use Rattle.manifest.proofs.Slot.activate.Statement.{statement}
 use Rattle.manifest.proofs.Slot.activate.Tie as tie
 
--- the part of a buffer that it has room for
+-- how long a part from the start is
 part-length : {n : ℕ} (p : List ℕ) → n ≤ length p → n ≡ length (take n p)
 part-length {n} p h = sym (length-take-le n p h)
 
