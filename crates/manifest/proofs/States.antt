@@ -1,5 +1,5 @@
 -- The states and headers that are sound, in facts about numbers.
-use Prim.Native.Nat.{ℕ, _+_, _-_, _%_, _^_, _≤_}
+use Prim.Native.Nat.{ℕ, _+_, _-_, _^_, _≤_, _<_}
 use mathlib.Core.Path.{_≡_, refl, sym, ap, _∙_}
 use mathlib.Core.Bool.{true, false, not, _&&_, and-false, true≢false}
 use mathlib.Core.Logic.{⊎-elim}
@@ -13,7 +13,7 @@ use Rattle.manifest.specs.declared.Active.{Active}
 use Rattle.manifest.specs.declared.Transfer.{Transfer}
 use Rattle.manifest.specs.declared.Transfer.the-variants.{Idle, Receiving}
 use Rattle.manifest.specs.declared.Slot.{Slot}
-use Rattle.manifest.specs.Slot.{bufferLength, shortest, outside, wrongBuffers, activeUnsound, transferUnsound, unsound, totalOf, receivedOf, incomplete, tooLong, isIdle, advanced, wrapped}
+use Rattle.manifest.specs.Slot.{bufferLength, shortest, outside, wrongBuffers, activeUnsound, transferUnsound, unsound, totalOf, receivedOf, incomplete, tooLong, isIdle, advanced}
 
 pub inside : (low high n : ℕ) → outside low high n ≡ false → (low ≤ n) × (n ≤ high)
 inside low high n e = let p = or-no (ltb n low) (ltb high n) e in (ltb-false n low (p .0), ltb-false high n (p .1))
@@ -59,12 +59,8 @@ advanced-sound (Receiving total received) n e f =
     rw (p .0, le-ltb total (received + n) fits)
 
 -- the count of a sound transfer does not wrap
-pub counted : (t : Transfer) → transferUnsound t ≡ false → wrapped t ≡ t
-counted Idle e = refl
-counted (Receiving total received) e =
-    let p = transfer-bounds (Receiving total received) e in
-    let small : received % 2 ^ 64 ≡ received = omega (arith, p) in
-    ap (Receiving total) small
+pub counted : (t : Transfer) → transferUnsound t ≡ false → receivedOf t < 2 ^ 64
+counted t e = omega (arith, transfer-bounds t e)
 
 -- the bytes that it then has
 pub advanced-received : (t : Transfer) (n : ℕ) → isIdle t ≡ false → receivedOf (advanced t n) ≡ receivedOf t + n

@@ -1,5 +1,5 @@
 -- Document 01, "Manifest slot": the limits, the buffers, the states that are sound, and the manifest header's fields.
-use Prim.Native.Nat.{ℕ, _+_, _-_, _%_, _^_}
+use Prim.Native.Nat.{ℕ, _+_, _-_}
 use mathlib.Core.Bool.{Bool, true, false, not, _&&_, _||_}
 use mathlib.Core.List.{List}
 use lib.ListN.{length}
@@ -89,8 +89,3 @@ tooLong (Receiving total received) n = ltb (total - received) n
 abbrev pub advanced : Transfer → ℕ → Transfer
 advanced Idle n = Idle
 advanced (Receiving total received) n = Receiving total (received + n)
-
--- a transfer as the code counts it, modulo 2^64; a sound one's count never wraps
-abbrev pub wrapped : Transfer → Transfer
-wrapped Idle = Idle
-wrapped (Receiving total received) = Receiving total (received % 2 ^ 64)

@@ -3,7 +3,8 @@ use crate::Slot;
 use crate::Transfer;
 use std::num::wrapping_add_usize;
 ghost use mathlib.Core.Path.{_≡_};
-ghost use Rattle.manifest.specs.Slot.{totalOf, receivedOf, isIdle, incomplete, tooLong, advanced, wrapped};
+ghost use Prim.Native.Nat.{_^_, _<_};
+ghost use Rattle.manifest.specs.Slot.{totalOf, receivedOf, isIdle, incomplete, tooLong, advanced};
 ghost use Rattle.manifest.specs.Calls.{transferring};
 
 impl Transfer {
@@ -65,9 +66,9 @@ impl Transfer {
         }
     }
 
-    // The transfer with n bytes more, whether or not they may come: the count wraps.
+    // The transfer with n bytes more. Of more than can be counted nothing is said.
     pub(crate) fn advanced(self, n: usize) -> Transfer
-        ensures { λ r. ⌜ r ≡ wrapped (advanced self n) ⌝ }
+        ensures { λ r. ⌜ (receivedOf (advanced self n) < 2 ^ 64 → r ≡ advanced self n) ⌝ }
     {
         match self {
             Transfer::Idle => self,

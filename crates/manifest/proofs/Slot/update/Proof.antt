@@ -34,7 +34,7 @@ returns-2 c =
     let count = counted (advanced t n) (advanced-sound t n (sound-parts (a .self) (s .slot) .1) (k .1)) in (
       v .update-verdict .ensures,
       (
-        w .transferring .ensures ∙ ap (λ (t : Transfer). transferring (a .self) t) (w .before .advanced .ensures ∙ count) ∙ sym (accepted-yes _ _ e),
+        w .transferring .ensures ∙ ap (λ (t : Transfer). transferring (a .self) t) (w .before .advanced .ensures count) ∙ sym (accepted-yes _ _ e),
         c .before .before .put .ensures ∙ ap (λ (n : ℕ). pasted d n p) (w .before .before .received .ensures) ∙ sym (accepted-yes _ _ e),
       ),
     )
