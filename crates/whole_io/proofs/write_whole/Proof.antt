@@ -1,0 +1,29 @@
+use Prim.Native.Nat.{_+_, _-_, _≤_}
+use mathlib.Core.Path.{_≡_, refl}
+use native.Mathlib.Omega.{arith}
+use borrow.Author.Needs.{needs}
+use lib.ListN.{length}
+use Rattle.whole_io.proofs.TransferLaws.{again-nearer}
+use Rattle.whole_io.proofs.write_whole.Statement.{statement}
+use Rattle.whole_io.proofs.write_whole.Tie as tie
+
+abbrev Inv-loop : tie.InvT-loop
+Inv-loop fd bytes len done₀ interruptions₀ done interruptions = (len ≡ length bytes) × (done ≤ len)
+
+abbrev μ-loop : tie.MeasureT-loop
+μ-loop fd bytes len done₀ interruptions₀ done interruptions = len - done + interruptions
+
+loop-less : tie.Need-loop-less Inv-loop μ-loop
+loop-less c =
+    let n = again-nearer _ _ _ _ _ _ _ _ (search needs) (c .before .before .before .step-after .ensures) (c .before .next .given .1) in
+    omega (arith, n .nearer, n .most)
+
+loop-again : tie.Need-loop-again Inv-loop μ-loop
+loop-again c =
+    let n = again-nearer _ _ _ _ _ _ _ _ (search needs) (c .before .before .before .step-after .ensures) (c .before .next .given .1) in
+    (refl, omega (arith, n .most))
+
+pub write-whole-spec : {M : Type 1} → statement M
+write-whole-spec =
+    tie.close
+    (tie.spec Inv-loop μ-loop (λ c. search needs) (λ c. search needs) (λ c. search needs) (λ c. search needs) (λ c κs. search needs) (λ c κs. search needs) (λ c κs. search needs) (λ c. search needs) loop-less loop-again (λ c. search needs) (λ c. search needs) (λ c. search needs))
