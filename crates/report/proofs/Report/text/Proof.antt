@@ -1,0 +1,15 @@
+use mathlib.Core.Path.{refl, sym, _∙_}
+use mathlib.Core.Bool.{true≢false}
+use borrow.Author.Needs.{needs}
+use Rattle.report.proofs.Report.text.Statement.{statement}
+use Rattle.report.proofs.Report.text.Tie as tie
+
+-- it had not failed before
+returns-2 : tie.Need-returns-2
+returns-2 c = λ failed. absurd (true≢false (sym (c .before .before .before .before .if1 .taken) ∙ failed))
+
+returns-3 : tie.Need-returns-3
+returns-3 c = λ failed. refl
+
+pub text-spec : {M : Type 1} → statement M
+text-spec = tie.close (tie.spec (λ c κs. search needs) (λ c. search needs) (λ c. search needs) (λ c κs. search needs) returns-2 returns-3)
