@@ -1,35 +1,34 @@
 // What the comparison found, for programs to read: a line for each PMR.
-use crate::print::print_number;
-use crate::print::print_text;
 use attestation_log::Pmr;
 use log_comparison::Agreement;
 use log_comparison::PmrComparison;
+use report::Report;
 
-fn print_agreement(digests: Agreement) {
+fn write_agreement(report: Report, digests: Agreement) -> Report {
     match digests {
-        Agreement::Agree => print_text(b": agree"),
-        Agreement::DifferAt(place) => print_number(b": differ-at ", place.0 as u64),
+        Agreement::Agree => report.text(b": agree"),
+        Agreement::DifferAt(place) => report.labelled(b": differ-at ", place.0 as u64),
     }
 }
 
-fn print_line(pmr: usize, found: PmrComparison) {
+fn write_line(report: Report, pmr: Pmr, found: PmrComparison) -> Report {
     let digests = found.digests;
-    print_number(b"pmr ", pmr as u64);
-    print_agreement(digests);
-    print_number(b" left-records ", found.left_records as u64);
-    print_number(b" right-records ", found.right_records as u64);
+    let r1 = write_agreement(report.labelled(b"pmr ", pmr.0 as u64), digests);
+    let r2 = r1.labelled(b" left-records ", found.left_records as u64);
+    let r3 = r2.labelled(b" right-records ", found.right_records as u64);
     if found.same_register {
-        print_text(b" registers equal\n");
+        r3.text(b" registers equal\n")
     } else {
-        print_text(b" registers different\n");
+        r3.text(b" registers different\n")
     }
 }
 
-pub(crate) fn print_lines(pmrs: [PmrComparison; Pmr::COUNT]) {
-    print_text(b"compared\n");
-    let mut pmr: usize = 0;
-    while pmr < Pmr::COUNT {
-        print_line(pmr, pmrs[pmr]);
-        pmr += 1;
+pub(crate) fn write_lines(report: Report, pmrs: [PmrComparison; Pmr::COUNT]) -> Report {
+    let mut out = report.text(b"compared\n");
+    let mut i: usize = 0;
+    while i < Pmr::COUNT {
+        out = write_line(out, Pmr(i as u8), pmrs[i]);
+        i += 1;
     }
+    out
 }

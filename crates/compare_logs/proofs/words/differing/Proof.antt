@@ -6,10 +6,10 @@ use Rattle.compare_logs.proofs.words.differing.Statement.{statement}
 use Rattle.compare_logs.proofs.words.differing.Tie as tie
 
 abbrev Inv-loop : tie.InvT-loop
-Inv-loop pmrs n₀ pmr₀ n pmr = (n ≤ pmr) × (pmr ≤ 5)
+Inv-loop pmrs n₀ i₀ n i = (n ≤ i) × (i ≤ 5)
 
 abbrev μ-loop : tie.MeasureT-loop
-μ-loop pmrs n₀ pmr₀ n pmr = 5 - pmr
+μ-loop pmrs n₀ i₀ n i = 5 - i
 
 loop-again : tie.Need-loop-again Inv-loop μ-loop
 loop-again c = ⊎-elim (λ w. omega arith) (λ w. omega arith) (c .match .came)
