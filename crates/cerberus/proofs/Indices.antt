@@ -1,8 +1,8 @@
 -- One region or one hash by its index: the numbers of specs/Calls.antt are those of the readers that the calls ask.
-use Prim.Native.Nat.{ℕ, _+_, _*_, _<_, _≤_}
+use Prim.Native.Nat.{ℕ, _<_, _≤_}
 use mathlib.Core.Path.{_≡_, refl, sym, ap, _∙_}
 use mathlib.Core.Bool.{Bool, true, false}
-use mathlib.Core.List.{List, []}
+use mathlib.Core.List.{List}
 use mathlib.Core.Logic.{_⊎_, inl, inr, ⊎-elim}
 use native.Mathlib.Omega.{arith}
 use native.Mathlib.Nat.{mul-le-mul-left, le-of-lt}
@@ -13,11 +13,10 @@ use Rattle.refusal.specs.Rules.{_when_else_, first_then_, any, Reply, reply}
 use Rattle.elements.specs.declared.region.Region.{Region}
 use Rattle.elements.specs.Parts.{readNumber, hashWidth}
 use Rattle.elements.specs.SignedImage.{regionCountOf, imageFaults, imageNumber, imageRegion}
-use Rattle.elements.specs.RootCas.{rootsHeadLength, rootCountOf, rootsFaults, rootsNumber, rootsHash}
-use Rattle.elements.proofs.HashWidths.{width-positive}
-use Rattle.elements.proofs.Roots.{roots-element}
+use Rattle.elements.specs.RootCas.{rootsNumber, rootsHash, rootsHashNumber}
+use Rattle.elements.proofs.Roots.{roots-element, hash-there, hash-accepted}
 use Rattle.elements.proofs.ByNumber.{by-number}
-use Rattle.cerberus.specs.Calls.{imageRegionNumber, imageRegionAt, rootsHashNumber, rootsHashOffset}
+use Rattle.cerberus.specs.Calls.{imageRegionNumber, imageRegionAt, rootsHashOffset}
 
 -- an index is refused by an element's judgement m, or by a count n that isn't above it
 abbrev indexNumber : Bool → ℕ → ℕ → ℕ
@@ -48,48 +47,21 @@ region-index b i =
 
 -- ---- a hash of root CAs
 
--- the hash is shown: it is as long as its type says, and begins within the element
+-- a hash that is shown is as long as its type says, and begins within the element
 pub record HashShown (hashType : ℕ) (b : List ℕ) (index : ℕ) : Type 0 where
-  pub number : rootsHashNumber hashType b index ≡ 0
   pub long : length (rootsHash hashType b index) ≡ hashWidth hashType
-  pub some : 0 < hashWidth hashType
   pub within : rootsHashOffset hashType index ≤ length b
 
-hash-shown : (hashType : ℕ) (b : List ℕ) (index : ℕ) → rootsHashNumber hashType b index ≡ 0 → rootsNumber hashType b ≡ 0 → index < rootCountOf b
-    → HashShown hashType b index
-hash-shown t b i number e h =
-    let k = roots-element t b e in
+pub hash-shown : (hashType : ℕ) (b : List ℕ) (index : ℕ) → rootsHashNumber hashType b index ≡ 0 → HashShown hashType b index
+hash-shown t b i e =
+    let k = hash-accepted t b i e in
     record {
-      number = number;
-      long = by-number .hash-shown t b i e h .0;
-      some = width-positive t (k .known);
-      within = omega (arith, k .long, mul-le-mul-left (hashWidth t) (le-of-lt h));
+      long = by-number .hash-shown t b i e .0;
+      within = omega (arith, roots-element t b (k .0) .long, mul-le-mul-left (hashWidth t) (le-of-lt (k .1)));
     }
-
-hash-index : (hashType : ℕ) (b : List ℕ) (index : ℕ)
-    → HashShown hashType b index ⊎ ((rootsHashNumber hashType b index ≡ 12) × (length (rootsHash hashType b index) ≡ 0))
-unfolding rootsNumber rootsHashNumber
-hash-index t b i =
-    ⊎-elim
-    (λ (p : (rootsHashNumber t b i ≡ 0) × (rootsNumber t b ≡ 0) × (i < rootCountOf b)). inl (hash-shown t b i (p .0) (p .1) (p .2)))
-    (λ (p : (rootsHashNumber t b i ≡ 12) × (rootsNumber t b ≡ 0 → i < rootCountOf b → ⊥)). inr (p .0, ap length (by-number .hash-none t b i (p .1))))
-    (index-cases (any (rootsFaults t b)) (rootCountOf b) i)
-
-pub hash-empty : (hashType : ℕ) (b : List ℕ) (index : ℕ) → length (rootsHash hashType b index) ≡ 0
-    → (12 ≡ rootsHashNumber hashType b index) × (0 < rootsHashNumber hashType b index)
-hash-empty t b i e =
-    ⊎-elim
-    (λ (p : HashShown t b i). absurd (omega (arith, p .long, p .some)))
-    (λ (p : (rootsHashNumber t b i ≡ 12) × (length (rootsHash t b i) ≡ 0)). (sym (p .0), omega (arith, p .0)))
-    (hash-index t b i)
-
-pub hash-nonempty : (hashType : ℕ) (b : List ℕ) (index : ℕ) → (length (rootsHash hashType b index) ≡ 0 → ⊥) → HashShown hashType b index
-hash-nonempty t b i h =
-    ⊎-elim
-    (λ (p : HashShown t b i). p)
-    (λ (p : (rootsHashNumber t b i ≡ 12) × (length (rootsHash t b i) ≡ 0)). absurd (h (p .1)))
-    (hash-index t b i)
 
 -- the first hash is there in every element that is accepted
 pub first-hash : (hashType : ℕ) (b : List ℕ) → rootsNumber hashType b ≡ 0 → length (rootsHash hashType b 0) ≡ hashWidth hashType
-first-hash t b e = by-number .hash-shown t b 0 e (let k = roots-element t b e .some in omega (arith, k)) .0
+first-hash t b e =
+    let some = roots-element t b e .some in
+    by-number .hash-shown t b 0 (hash-there t b 0 e (omega (arith, some))) .0

@@ -6,10 +6,8 @@ use mathlib.Core.List.{List, [], _∷_}
 use native.Mathlib.Omega.{arith}
 use lib.ListN.{length, take, drop, length-drop}
 use lib.Seq.{length-take-le}
-use lib.Dec.{leb, eqb}
-use borrow.Author.Tests.{leb-false}
-use Rattle.refusal.specs.Rules.{_when_else_}
-use Rattle.refusal.proofs.Laws.{when-accepted, first-accepted, accepted-yes}
+use lib.Dec.{eqb}
+use Rattle.refusal.proofs.Laws.{first-accepted, accepted-yes}
 use Rattle.attestation_log.specs.History.{entryLength}
 use Rattle.attestation_log.specs.Calls.{readOutStep}
 use Rattle.attestation_log.proofs.Answers.{read-bytes}
@@ -20,10 +18,10 @@ use Rattle.manifest.specs.Slot.{receivedOf}
 use Rattle.manifest.specs.Calls.{lentNumber, held, manifestPart}
 use Rattle.elements.specs.Parts.{hashWidth}
 use Rattle.elements.specs.SignedImage.{imageHeadLength, hashTypeOf, regionCountOf, hashOf, regionsOf, imageNumber, imageHash, imageRegions}
-use Rattle.elements.specs.RootCas.{rootCountOf, rootsNumber, rootsHash}
+use Rattle.elements.specs.RootCas.{rootsHash, rootsHashNumber}
 use Rattle.elements.proofs.Images.{image-element}
 use Rattle.elements.proofs.ByNumber.{by-number}
-use Rattle.cerberus.specs.Calls.{manifestNumber, roleOf, manifestLength, rootsHashNumber, rootsHashOffset}
+use Rattle.cerberus.specs.Calls.{manifestNumber, roleOf, manifestLength, rootsHashOffset}
 use Rattle.cerberus.specs.Laws.{PartLaws}
 use Rattle.cerberus.proofs.Outcomes.{read-out-check}
 
@@ -64,11 +62,7 @@ image b e =
 
 hash : (hashType : ℕ) (b : List ℕ) (index : ℕ) → rootsHashNumber hashType b index ≡ 0
     → take (hashWidth hashType) (drop (rootsHashOffset hashType index) b) ≡ rootsHash hashType b index
-unfolding rootsHashNumber
-hash t b i e =
-    let k = first-accepted (rootsNumber t b) _ e in
-    let low = when-accepted 12 (leb (rootCountOf b) i) 0 (omega arith) (k .1) .0 in
-    sym (by-number .hash-shown t b i (k .0) (leb-false (rootCountOf b) i low) .1)
+hash t b i e = sym (by-number .hash-shown t b i e .1)
 
 pub part-laws : PartLaws
 part-laws = record { text = text; manifest = manifest; image = image; hash = hash }

@@ -13,12 +13,11 @@ use Rattle.manifest.specs.declared.Role.{Role}
 use Rattle.manifest.specs.declared.Role
 use Rattle.manifest.specs.Calls.{lentNumber, manifestPart}
 use Rattle.elements.specs.declared.region.Region.{Region}
-use Rattle.elements.specs.declared.rw_region.RwRegion.{RwRegion}
 use Rattle.elements.specs.Parts.{writtenBy, hashWidth}
 use Rattle.elements.specs.Region.{regionLength, regionAt}
-use Rattle.elements.specs.RwRegion.{operationOf, rwRegionBytes, rwRegionWriteNumber}
+use Rattle.elements.specs.RwRegion.{badOperation, RwFields, rwRegionBytes, rwRegionWriteNumber}
 use Rattle.elements.specs.SignedImage.{regionCountOf, regionsOf, imageNumber, imageBytes, imageWriteNumber}
-use Rattle.elements.specs.RootCas.{rootsHeadLength, rootCountOf, rootsNumber}
+use Rattle.elements.specs.RootCas.{rootsHeadLength}
 
 -- ---- the refusals' meaning: "3 text has under 80 bytes; 5 number is not 1 to 12"
 
@@ -65,17 +64,13 @@ manifestLength s role pending active = length (manifestPart s (roleOf role) pend
 
 -- ---- the elements' writers: "a writer refuses a number above 3 with 12", and "another number" than 0 or 1
 
-abbrev pub rwRegionOf : ℕ → Region → RwRegion
-rwRegionOf operation region = record { operation = operationOf operation; region = region }
+abbrev pub rwRegionNumberWritten : RwFields → List ℕ → ℕ
+rwRegionNumberWritten f buffer =
+    12 when badOperation (f .operation) else
+    rwRegionWriteNumber f buffer
 
-abbrev pub rwRegionNumberWritten : ℕ → Region → List ℕ → ℕ
-rwRegionNumberWritten operation region buffer =
-    12 when ltb 3 operation else
-    rwRegionWriteNumber (rwRegionOf operation region) buffer
-
-abbrev pub rwRegionBytesWritten : ℕ → Region → List ℕ → List ℕ
-rwRegionBytesWritten operation region buffer =
-    writtenBy (rwRegionNumberWritten operation region buffer) (rwRegionBytes (rwRegionOf operation region)) buffer
+abbrev pub rwRegionBytesWritten : RwFields → List ℕ → List ℕ
+rwRegionBytesWritten f buffer = writtenBy (rwRegionNumberWritten f buffer) (rwRegionBytes f) buffer
 
 abbrev pub imageNumberWritten : ℕ → ℕ → List ℕ → List ℕ → List ℕ → ℕ
 imageNumberWritten hashType mustValidate hash regions buffer =
@@ -86,7 +81,7 @@ abbrev pub imageBytesWritten : ℕ → ℕ → List ℕ → List ℕ → List �
 imageBytesWritten hashType mustValidate hash regions buffer =
     writtenBy (imageNumberWritten hashType mustValidate hash regions buffer) (imageBytes hashType (eqb mustValidate 1) hash regions) buffer
 
--- ---- one region or one hash by its index: "12 also where there is no such region" or "hash"
+-- ---- one region or one hash by its index: "12 also where there is no such region"
 
 unfoldable pub imageRegionNumber : List ℕ → ℕ → ℕ
 imageRegionNumber b index =
@@ -96,12 +91,6 @@ imageRegionNumber b index =
 
 abbrev pub imageRegionAt : List ℕ → ℕ → Region
 imageRegionAt b index = regionAt (regionsOf b) (regionLength * index)
-
-unfoldable pub rootsHashNumber : ℕ → List ℕ → ℕ → ℕ
-rootsHashNumber hashType b index =
-    first rootsNumber hashType b then
-    12 when leb (rootCountOf b) index else
-    0
 
 -- where the hash begins in the element
 abbrev pub rootsHashOffset : ℕ → ℕ → ℕ

@@ -16,10 +16,10 @@ use Rattle.manifest.specs.declared.Slot.{Slot}
 use Rattle.manifest.specs.Calls.{openNumber, lentNumber, manifestPart}
 use Rattle.elements.specs.Parts.{hashWidth}
 use Rattle.elements.specs.SignedImage.{imageHeadLength, imageNumber, imageHash, imageRegions}
-use Rattle.elements.specs.RootCas.{rootsHash}
+use Rattle.elements.specs.RootCas.{rootsHash, rootsHashNumber}
 use Rattle.cerberus.specs.States.{noSlot, slotOf, numbersOf}
 use Rattle.cerberus.specs.Comparisons.{pmrComparisonLength, pmrComparisonBytes, comparisonBytes}
-use Rattle.cerberus.specs.Calls.{refusalOf, longestMeaning, manifestNumber, roleOf, manifestLength, rootsHashNumber, rootsHashOffset}
+use Rattle.cerberus.specs.Calls.{refusalOf, longestMeaning, manifestNumber, roleOf, manifestLength, rootsHashOffset}
 
 -- ---- the integers of a slot
 

@@ -2,13 +2,14 @@
 use elements::region::Region;
 use elements::region::RegionRead;
 use elements::rw_region::Operation;
+use elements::rw_region::OperationRead;
 use elements::rw_region::RwRegion;
 use elements::rw_region::RwRegionRead;
 use refusal::Refusal;
 ghost use mathlib.Core.Path.{_≡_};
 ghost use Rattle.refusal.specs.Rules.{accepted_then_else_};
 ghost use Rattle.elements.specs.Region.{regionAt, regionNumber, regionWriteNumber, regionWritten};
-ghost use Rattle.elements.specs.RwRegion.{operationNumber, rwRegionFields, rwRegionNumber};
+ghost use Rattle.elements.specs.RwRegion.{rwRegionFields, rwRegionNumber};
 ghost use Rattle.cerberus.specs.Calls.{rwRegionNumberWritten, rwRegionBytesWritten};
 
 #[no_mangle]
@@ -45,7 +46,7 @@ pub extern "C" fn cerberus_rw_region_read(
     end: &mut u32,
 ) -> u8
     ensures number { λ r. ⌜ r ≡ rwRegionNumber (now (element .entry)) ⌝ }
-    ensures operation { λ _. ⌜ now (operation .exit) ≡ (accepted rwRegionNumber (now (element .entry)) then operationNumber (rwRegionFields (now (element .entry)) .operation) else now (operation .entry)) ⌝ }
+    ensures operation { λ _. ⌜ now (operation .exit) ≡ (accepted rwRegionNumber (now (element .entry)) then rwRegionFields (now (element .entry)) .operation else now (operation .entry)) ⌝ }
     ensures start { λ _. ⌜ now (start .exit) ≡ (accepted rwRegionNumber (now (element .entry)) then rwRegionFields (now (element .entry)) .region .start else now (start .entry)) ⌝ }
     ensures end { λ _. ⌜ now (end .exit) ≡ (accepted rwRegionNumber (now (element .entry)) then rwRegionFields (now (element .entry)) .region .end else now (end .entry)) ⌝ }
 {
@@ -70,15 +71,18 @@ pub extern "C" fn cerberus_rw_region_write(
     end: u32,
     buffer: &mut [u8],
 ) -> u8
-    ensures number { λ r. ⌜ r ≡ rwRegionNumberWritten operation (record { start = start; end = end }) (now (buffer .entry)) ⌝ }
-    ensures buffer { λ _. ⌜ now (buffer .exit) ≡ rwRegionBytesWritten operation (record { start = start; end = end }) (now (buffer .entry)) ⌝ }
+    ensures number { λ r. ⌜ r ≡ rwRegionNumberWritten (record { operation = operation; region = record { start = start; end = end } }) (now (buffer .entry)) ⌝ }
+    ensures buffer { λ _. ⌜ now (buffer .exit) ≡ rwRegionBytesWritten (record { operation = operation; region = record { start = start; end = end } }) (now (buffer .entry)) ⌝ }
 {
-    if 3 < operation {
-        return Refusal::MalformedElement.number();
+    let read = Operation::of_number(operation);
+    match read {
+        OperationRead::Undefined => Refusal::MalformedElement.number(),
+        OperationRead::Defined(kind) => {
+            let rw = RwRegion {
+                operation: kind,
+                region: Region { start, end },
+            };
+            rw.write(buffer).number()
+        }
     }
-    let rw = RwRegion {
-        operation: Operation::of_number(operation),
-        region: Region { start, end },
-    };
-    rw.write(buffer).number()
 }

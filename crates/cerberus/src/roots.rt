@@ -2,11 +2,12 @@
 use elements::root_cas::RootCas;
 use elements::root_cas::RootCasRead;
 use refusal::Refusal;
+use refusal::Verdict;
 ghost use mathlib.Core.Path.{_≡_};
 ghost use Rattle.refusal.specs.Rules.{accepted_then_else_};
 ghost use Rattle.elements.specs.Parts.{hashWidth};
-ghost use Rattle.elements.specs.RootCas.{rootCountOf, rootsNumber, rootsWriteNumber, rootsWritten};
-ghost use Rattle.cerberus.specs.Calls.{rootsHashNumber, rootsHashOffset};
+ghost use Rattle.elements.specs.RootCas.{rootCountOf, rootsNumber, rootsHashNumber, rootsWriteNumber, rootsWritten};
+ghost use Rattle.cerberus.specs.Calls.{rootsHashOffset};
 
 #[no_mangle]
 pub extern "C" fn cerberus_root_cas_read(
@@ -43,11 +44,12 @@ pub extern "C" fn cerberus_root_cas_hash(
     ensures offset { λ _. ⌜ now (offset .exit) ≡ (accepted rootsHashNumber «hash_type» (now (element .entry)) index then rootsHashOffset «hash_type» index else now (offset .entry)) ⌝ }
     ensures width { λ _. ⌜ now («hash_len» .exit) ≡ (accepted rootsHashNumber «hash_type» (now (element .entry)) index then hashWidth «hash_type» else now («hash_len» .entry)) ⌝ }
 {
+    let verdict = RootCas::hash_verdict(hash_type, element, index);
+    let Verdict::Accepted = verdict else {
+        return verdict.number();
+    };
     let hash = RootCas::hash(hash_type, element, index);
     let width = hash.len();
-    if width == 0 {
-        return Refusal::MalformedElement.number();
-    }
     *offset = RootCas::HEAD_LEN + width * index;
     *hash_len = width;
     0

@@ -1,14 +1,14 @@
 -- The first four bytes of an element, and the fields in them.
 use Prim.Native.Nat.{ℕ, zero, suc, _≤_, _<_, _/_, _%_, _^_}
-use mathlib.Core.Path.{_≡_, refl, ap, _∙_}
+use mathlib.Core.Path.{_≡_, refl, sym, ap, _∙_}
 use mathlib.Core.Bool.{Bool, true, false}
 use mathlib.Core.List.{List, [], _∷_}
 use native.Mathlib.Omega.{arith}
-use lib.Dec.{eqb}
+use lib.Dec.{eqb, lit<}
 use lib.ListN.{length, getD, drop}
 use Rattle.elements.specs.declared.rw_region.Operation.{Operation}
 use Rattle.elements.specs.declared.rw_region.Operation.the-variants.{Nothing, Restore, Erase, Reserved}
-use Rattle.elements.specs.RwRegion.{operationNumber, operationOf}
+use Rattle.elements.specs.RwRegion.{operationNumber}
 use Rattle.elements.specs.SignedImage.{bitOf}
 
 pub four-and-rest : (b : List ℕ) → 4 ≤ length b → b ≡ getD b 0 0 ∷ getD b 1 0 ∷ getD b 2 0 ∷ getD b 3 0 ∷ drop 4 b
@@ -20,29 +20,28 @@ four-and-rest (x ∷ (y ∷ (z ∷ (w ∷ b)))) h = refl
 
 -- ---- an operation in two bits
 
-pub operation-back : (o : Operation) → operationOf (operationNumber o % 2 ^ 2) ≡ o
-operation-back Nothing = refl
-operation-back Restore = refl
-operation-back Erase = refl
-operation-back Reserved = refl
+pub operation-small : (o : Operation) → operationNumber o < 2 ^ 2
+operation-small Nothing = lit< tt
+operation-small Restore = lit< tt
+operation-small Erase = lit< tt
+operation-small Reserved = lit< tt
 
-pub operation-small : (o : Operation) → operationNumber o / 2 ^ 2 ≡ 0
-operation-small Nothing = refl
-operation-small Restore = refl
-operation-small Erase = refl
-operation-small Reserved = refl
+-- the operation with this number, where there is one
+abbrev numbered : ℕ → Operation
+numbered zero = Nothing
+numbered (suc zero) = Restore
+numbered (suc (suc zero)) = Erase
+numbered (suc (suc (suc n))) = Reserved
 
-two-bits : (n : ℕ) → n < 4 → operationNumber (operationOf n) ≡ n
-two-bits zero h = refl
-two-bits (suc zero) h = refl
-two-bits (suc (suc zero)) h = refl
-two-bits (suc (suc (suc zero))) h = refl
-two-bits (suc (suc (suc (suc n)))) h = absurd (let z : suc (suc (suc (suc n))) < 4 = h in omega arith)
+numbered-back : (o : Operation) → numbered (operationNumber o) ≡ o
+numbered-back Nothing = refl
+numbered-back Restore = refl
+numbered-back Erase = refl
+numbered-back Reserved = refl
 
-pub operation-again : (n : ℕ) → n / 2 ^ 2 ≡ 0 → operationNumber (operationOf (n % 2 ^ 2)) ≡ n
-operation-again n h =
-    let low : n % 2 ^ 2 ≡ n = omega arith in
-    ap (λ (k : ℕ). operationNumber (operationOf k)) low ∙ two-bits n (omega arith)
+-- a number fixes its operation
+pub operation-injective : (o p : Operation) → operationNumber o ≡ operationNumber p → o ≡ p
+operation-injective o p e = sym (numbered-back o) ∙ ap numbered e ∙ numbered-back p
 
 -- ---- a flag in one bit
 

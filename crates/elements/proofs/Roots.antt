@@ -1,16 +1,17 @@
 -- Root CAs: what their writer wrote, their reader reads back; what their reader accepts, their writer writes again. Over the hash type.
-use Prim.Native.Nat.{ℕ, _≤_, _+_, _*_}
+use Prim.Native.Nat.{ℕ, _≤_, _<_, _+_, _*_}
 use mathlib.Core.Path.{_≡_, refl, sym, ap, _∙_}
-use mathlib.Core.Bool.{false}
+use mathlib.Core.Bool.{Bool, true, false, _||_}
 use mathlib.Core.List.{List, [], _∷_}
 use native.Mathlib.Omega.{arith}
-use borrow.Author.Tests.{ne-eqb, eqb-false, le-ltb, ltb-false}
+use borrow.Author.Tests.{ne-eqb, eqb-false, le-ltb, ltb-false, lt-leb, leb-false}
+use lib.Dec.{leb, lit<}
 use lib.ListN.{length, getD, drop, length-drop}
 use Rattle.octets.specs.Octets.{Bytes}
-use Rattle.refusal.specs.Rules.{reply}
-use Rattle.refusal.proofs.Laws.{accepted-yes}
-use Rattle.elements.specs.Parts.{itemCount, hashWidth}
-use Rattle.elements.specs.RootCas.{rootsHeadLength, rootCountOf, rootsFaults, rootsNumber, rootsFields, rootsHashes, rootsFieldFaults, rootsFieldsMalformed, rootsBytes, rootsWriteNumber, rootsWritten}
+use Rattle.refusal.specs.Rules.{_when_else_, first_then_, reply}
+use Rattle.refusal.proofs.Laws.{first-yes, when-no, first-accepted, when-accepted, accepted-yes}
+use Rattle.elements.specs.Parts.{readNumber, itemCount, hashWidth}
+use Rattle.elements.specs.RootCas.{rootsHeadLength, rootCountOf, rootsFaults, rootsNumber, rootsFields, rootsHashes, rootsHashNumber, rootsFieldFaults, rootsFieldsMalformed, rootsBytes, rootsWriteNumber, rootsWritten}
 use Rattle.refusal.proofs.Tests.{any-no, no-any, equal-no, no-equal}
 use Rattle.elements.proofs.Verdicts.{read-yes, read-accepted, write-yes, write-accepted}
 use Rattle.elements.proofs.HashWidths.{width-positive}
@@ -70,6 +71,30 @@ roots-accepted t b k =
       le-ltb 2 t (k .known),
       (equal-no (k .long), (ne-eqb (rootCountOf b) 0 (k .some), (equal-no (k .zero1), (equal-no (k .zero2), (equal-no (k .zero3), tt))))),
     ))
+
+-- ---- a hash by its number
+
+-- it is refused by the judgement m of the element, or by the count
+either : (m t : Bool) → readNumber (m || t) ≡ (first readNumber m then 12 when t else 0)
+either true t = refl
+either false t = refl
+
+pub hash-judged : (hashType : ℕ) (b : List ℕ) (i : ℕ) (m : Bool) → readNumber m ≡ rootsNumber hashType b
+    → readNumber (m || leb (rootCountOf b) i) ≡ rootsHashNumber hashType b i
+unfolding rootsHashNumber
+hash-judged t b i m e = either m (leb (rootCountOf b) i) ∙ ap (λ (n : ℕ). first n then 12 when leb (rootCountOf b) i else 0) e
+
+-- it is accepted in a sound element that has so many hashes, and in no other
+pub hash-there : (hashType : ℕ) (b : List ℕ) (i : ℕ) → rootsNumber hashType b ≡ 0 → i < rootCountOf b → rootsHashNumber hashType b i ≡ 0
+unfolding rootsHashNumber
+hash-there t b i e h = first-yes _ e ∙ when-no 12 0 (lt-leb (rootCountOf b) i h)
+
+pub hash-accepted : (hashType : ℕ) (b : List ℕ) (i : ℕ) → rootsHashNumber hashType b i ≡ 0 → (rootsNumber hashType b ≡ 0) × (i < rootCountOf b)
+unfolding rootsHashNumber
+hash-accepted t b i e =
+    let k = first-accepted (rootsNumber t b) _ e in
+    let low = when-accepted 12 (leb (rootCountOf b) i) 0 (lit< tt) (k .1) .0 in
+    (k .0, leb-false (rootCountOf b) i low)
 
 -- ---- what was written is read back
 

@@ -1,5 +1,5 @@
 -- An R/W region: what its writer wrote, its reader reads back; what its reader accepts, its writer writes again.
-use Prim.Native.Nat.{ℕ, _/_, _^_}
+use Prim.Native.Nat.{ℕ, _/_, _%_, _^_}
 use mathlib.Core.Path.{_≡_, refl, sym, ap, _∙_}
 use mathlib.Core.Bool.{false}
 use mathlib.Core.List.{List, [], _∷_}
@@ -10,10 +10,10 @@ use Rattle.refusal.specs.Rules.{reply}
 use Rattle.refusal.proofs.Laws.{accepted-yes}
 use Rattle.elements.specs.declared.rw_region.RwRegion.{RwRegion}
 use Rattle.elements.specs.Region.{Addresses, regionAt, regionUnsound}
-use Rattle.elements.specs.RwRegion.{operationNumber, rwRegionLength, rwRegionFields, rwRegionFaults, rwRegionNumber, rwRegionBytes, rwRegionWriteNumber, rwRegionWritten}
+use Rattle.elements.specs.RwRegion.{operationNumber, rwRegionLength, RwFields, rwFieldsOf, rwRegionFields, rwRegionFaults, rwRegionNumber, rwRegionBytes, rwRegionWriteNumber, rwRegionWritten}
 use Rattle.refusal.proofs.Tests.{any-no, no-any, equal-no, no-equal}
 use Rattle.elements.proofs.Verdicts.{read-yes, read-accepted, write-yes, write-accepted}
-use Rattle.elements.proofs.Heads.{four-and-rest, operation-back, operation-small, operation-again}
+use Rattle.elements.proofs.Heads.{four-and-rest, operation-small, operation-injective}
 use Rattle.elements.proofs.Regions.{region-behind, region-rest}
 
 -- ---- an element that the reader accepts
@@ -46,25 +46,35 @@ rw-accepted b k =
 
 -- ---- the round trips
 
-pub rw-back : (r : RwRegion) (buffer : List ℕ) → Addresses (r .region) → rwRegionWriteNumber r buffer ≡ 0
-    → reply (rwRegionNumber (rwRegionWritten r buffer)) (rwRegionFields (rwRegionWritten r buffer)) ≡ reply 0 r
+pub rw-back : (r : RwRegion) (buffer : List ℕ) → Addresses (r .region) → rwRegionWriteNumber (rwFieldsOf r) buffer ≡ 0
+    → reply (rwRegionNumber (rwRegionWritten (rwFieldsOf r) buffer)) (rwRegionFields (rwRegionWritten (rwFieldsOf r) buffer)) ≡ reply 0 (rwFieldsOf r)
 rw-back r buffer f e =
-    let at : regionAt (rwRegionBytes r) 4 ≡ r .region = region-behind (operationNumber (r .operation) ∷ 0 ∷ 0 ∷ 0 ∷ []) (r .region) f in
+    let n : ℕ = operationNumber (r .operation) in
+    let small = operation-small (r .operation) in
+    let high : n / 2 ^ 2 ≡ 0 = omega (arith, small) in
+    let low : n % 2 ^ 2 ≡ n = omega (arith, small) in
+    let at : regionAt (rwRegionBytes (rwFieldsOf r)) 4 ≡ r .region = region-behind (n ∷ 0 ∷ 0 ∷ 0 ∷ []) (r .region) f in
     let sound = write-accepted (regionUnsound (r .region)) rwRegionLength (length buffer) e .0 in
     let yes =
-    rw-accepted (rwRegionBytes r)
-    (record { long = refl; high = operation-small (r .operation); zero1 = refl; zero2 = refl; zero3 = refl; sound = ap regionUnsound at ∙ sound }) in
-    ap (λ (b : List ℕ). reply (rwRegionNumber b) (rwRegionFields b)) (accepted-yes (rwRegionBytes r) buffer e)
-    ∙ (λ i. reply (yes i) (record { operation = operation-back (r .operation) i; region = at i }))
+    rw-accepted (rwRegionBytes (rwFieldsOf r))
+    (record { long = refl; high = high; zero1 = refl; zero2 = refl; zero3 = refl; sound = ap regionUnsound at ∙ sound }) in
+    ap (λ (b : List ℕ). reply (rwRegionNumber b) (rwRegionFields b)) (accepted-yes (rwRegionBytes (rwFieldsOf r)) buffer e)
+    ∙ (λ i. reply (yes i) (record { operation = low i; region = at i }))
+
+pub rw-same : (r s : RwRegion) → rwFieldsOf r ≡ rwFieldsOf s → r ≡ s
+rw-same r s e =
+    let o = operation-injective (r .operation) (s .operation) (ap (λ (f : RwFields). f .operation) e) in
+    λ i. record { operation = o i; region = e i .region }
 
 pub rw-again : (b buffer : List ℕ) → Bytes b → rwRegionNumber b ≡ 0 → length buffer ≡ length b
     → (rwRegionWriteNumber (rwRegionFields b) buffer ≡ 0) × (rwRegionWritten (rwRegionFields b) buffer ≡ b)
 rw-again b buffer y e l =
     let k = rw-element b e in
     let yes : rwRegionWriteNumber (rwRegionFields b) buffer ≡ 0 = write-yes (k .sound) (l ∙ k .long) in
+    let low : getD b 0 0 % 2 ^ 2 ≡ getD b 0 0 = omega (arith, k .high) in
     let rest = region-rest b 4 y (k .long) in (
       yes,
       accepted-yes (rwRegionBytes (rwRegionFields b)) buffer yes
-          ∙ (λ i. operation-again (getD b 0 0) (k .high) i ∷ sym (k .zero1) i ∷ sym (k .zero2) i ∷ sym (k .zero3) i ∷ rest i)
+          ∙ (λ i. low i ∷ sym (k .zero1) i ∷ sym (k .zero2) i ∷ sym (k .zero3) i ∷ rest i)
           ∙ sym (four-and-rest b (omega (arith, k .long))),
     )

@@ -3,6 +3,7 @@ use Prim.Native.Nat.{ℕ}
 use mathlib.Core.Path.{_≡_, refl, sym, ap, _∙_}
 use mathlib.Core.Bool.{Bool, true, false, not}
 use mathlib.Core.List.{List, [], _∷_}
+use native.Mathlib.Omega.{arith}
 use lib.Dec.{eqb, lit<}
 use Rattle.refusal.specs.declared.Refusal.{Refusal}
 use Rattle.refusal.specs.declared.Verdict.{Verdict}
@@ -32,6 +33,10 @@ read-yes e = ap readNumber e
 
 pub read-accepted : (m : Bool) → readNumber m ≡ 0 → m ≡ false
 read-accepted m e = when-accepted 12 m 0 (lit< tt) e .0
+
+pub read-refused : (m : Bool) → readNumber m ≡ 12 → m ≡ true
+read-refused true e = refl
+read-refused false e = absurd (let z : _≡_ {A = ℕ} 0 12 = e in omega arith)
 
 -- ---- a writer whose verdict v has the number n
 

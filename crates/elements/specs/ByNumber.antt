@@ -1,5 +1,5 @@
 -- Document 01: "Readers show hash and regions as parts of the lent element". One region or one hash by its number, from 0: what stands there in an
--- element that is sound, and nothing past the last or where the element is malformed.
+-- element that is sound, and nothing past the last or where the element is malformed. A hash's companion tells the two apart.
 use Prim.Native.Nat.{ℕ, _+_, _*_, _<_}
 use mathlib.Core.Path.{_≡_}
 use mathlib.Core.List.{List, []}
@@ -8,12 +8,12 @@ use Rattle.refusal.specs.Rules.{reply}
 use Rattle.elements.specs.Parts.{hashWidth}
 use Rattle.elements.specs.Region.{regionLength, regionAt}
 use Rattle.elements.specs.SignedImage.{regionCountOf, regionsOf, imageNumber, imageRegion}
-use Rattle.elements.specs.RootCas.{rootsHeadLength, rootCountOf, rootsNumber, rootsHash}
+use Rattle.elements.specs.RootCas.{rootsHeadLength, rootsHash, rootsHashNumber}
 
 pub record ByNumber : Type 0 where
   pub region-shown : (b : List ℕ) (i : ℕ) → imageNumber b ≡ 0 → i < regionCountOf b → imageRegion b i ≡ reply 0 (regionAt (regionsOf b) (regionLength * i))
   pub region-none : (b : List ℕ) (i : ℕ) → (imageNumber b ≡ 0 → i < regionCountOf b → ⊥) → imageRegion b i ≡ record { number = 12; values = [] }
-  pub hash-shown : (hashType : ℕ) (b : List ℕ) (i : ℕ) → rootsNumber hashType b ≡ 0 → i < rootCountOf b
+  pub hash-shown : (hashType : ℕ) (b : List ℕ) (i : ℕ) → rootsHashNumber hashType b i ≡ 0
       → (length (rootsHash hashType b i) ≡ hashWidth hashType)
       × (rootsHash hashType b i ≡ take (hashWidth hashType) (drop (rootsHeadLength + hashWidth hashType * i) b))
-  pub hash-none : (hashType : ℕ) (b : List ℕ) (i : ℕ) → (rootsNumber hashType b ≡ 0 → i < rootCountOf b → ⊥) → rootsHash hashType b i ≡ []
+  pub hash-none : (hashType : ℕ) (b : List ℕ) (i : ℕ) → (rootsHashNumber hashType b i ≡ 0 → ⊥) → rootsHash hashType b i ≡ []

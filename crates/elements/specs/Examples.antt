@@ -4,16 +4,15 @@ use mathlib.Core.Path.{_≡_}
 use mathlib.Core.List.{List, [], _∷_}
 use Rattle.refusal.specs.Rules.{Reply, reply}
 use Rattle.elements.specs.declared.region.Region.{Region}
-use Rattle.elements.specs.declared.rw_region.RwRegion.{RwRegion}
 use Rattle.elements.specs.declared.rw_region.Operation.{Operation}
 use Rattle.elements.specs.declared.rw_region.Operation.the-variants.{Erase, Reserved}
 use Rattle.elements.specs.Region.{regionNumber, regionAt}
-use Rattle.elements.specs.RwRegion.{rwRegionNumber, rwRegionFields}
+use Rattle.elements.specs.RwRegion.{operationNumber, RwFields, rwRegionNumber, rwRegionFields}
 use Rattle.elements.specs.SignedImage.{imageLength}
 
 -- an R/W region's or a region's bytes with what their reader replies; a signed image's hash type and number of regions with its length
 pub data Example : Type 0 where
-  rw-region : List ℕ → Reply RwRegion → Example
+  rw-region : List ℕ → Reply RwFields → Example
   region : List ℕ → Reply Region → Example
   image-length : ℕ → ℕ → ℕ → Example
 
@@ -30,8 +29,8 @@ All (e ∷ es) = Holds e × All es
 abbrev pub rwBytes : ℕ → List ℕ
 rwBytes first = first ∷ 0x00 ∷ 0x00 ∷ 0x00 ∷ 0x00 ∷ 0x10 ∷ 0x00 ∷ 0x00 ∷ 0xff ∷ 0x1f ∷ 0x00 ∷ 0x00 ∷ []
 
-abbrev pub rwShown : Operation → Reply RwRegion
-rwShown o = record { number = 0; values = record { operation = o; region = record { start = 0x1000; end = 0x1fff } } ∷ [] }
+abbrev pub rwShown : Operation → Reply RwFields
+rwShown o = record { number = 0; values = record { operation = operationNumber o; region = record { start = 0x1000; end = 0x1fff } } ∷ [] }
 
 unfoldable pub table : List Example
 table =

@@ -1,5 +1,5 @@
 -- Document 01 and 002, Region: "start and end, 4 bytes each; end is the last valid address, so start above end is 12".
-use Prim.Native.Nat.{ℕ, zero, suc, _+_, _*_, _^_, _<_}
+use Prim.Native.Nat.{ℕ, zero, suc, _+_, _-_, _*_, _^_, _<_}
 use mathlib.Core.Bool.{Bool, false, not, _||_}
 use mathlib.Core.List.{List, [], _∷_, _++_}
 use lib.ListN.{length}
@@ -17,6 +17,10 @@ regionLength = 8
 -- the judgement of one region, wherever it stands
 abbrev pub regionUnsound : Region → Bool
 regionUnsound r = ltb (r .end) (r .start)
+
+-- how many bytes it holds: "end is the last valid address"
+abbrev pub regionSize : Region → ℕ
+regionSize r = r .end + 1 - r .start
 
 -- the region that the eight bytes from index i on name
 abbrev pub regionAt : List ℕ → ℕ → Region

@@ -3,8 +3,8 @@ use Prim.Native.Nat.{ℕ, _+_, _*_}
 use mathlib.Core.Bool.{Bool, not}
 use mathlib.Core.List.{List, [], _∷_, _++_}
 use lib.ListN.{length, getD, drop}
-use lib.Dec.{eqb}
-use Rattle.refusal.specs.Rules.{Reply, any}
+use lib.Dec.{leb, eqb}
+use Rattle.refusal.specs.Rules.{_when_else_, first_then_, Reply, any}
 use Rattle.elements.specs.declared.root_cas.RootCas.{RootCas}
 use Rattle.elements.specs.declared.root_cas.RootCasRead.{RootCasRead}
 use Rattle.elements.specs.declared.root_cas.RootCasRead.the-variants.{Read, Malformed}
@@ -45,6 +45,13 @@ rootsHashes hashType b = shownPart (rootsNumber hashType b) (drop rootsHeadLengt
 -- hash i, from 0: empty where the element is malformed or has no such hash
 abbrev pub rootsHash : ℕ → List ℕ → ℕ → List ℕ
 rootsHash hashType b i = item (hashWidth hashType) (rootsHashes hashType b) i
+
+-- "a companion call on the same inputs gives the number"
+unfoldable pub rootsHashNumber : ℕ → List ℕ → ℕ → ℕ
+rootsHashNumber hashType b i =
+    first rootsNumber hashType b then
+    12 when leb (rootCountOf b) i else
+    0
 
 -- ---- the writer
 

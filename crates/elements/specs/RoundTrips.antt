@@ -11,7 +11,7 @@ use Rattle.elements.specs.declared.region.Region.{Region}
 use Rattle.elements.specs.declared.rw_region.RwRegion.{RwRegion}
 use Rattle.elements.specs.Parts.{itemCount, hashWidth}
 use Rattle.elements.specs.Region.{Addresses, regionLength, regionAt, regionNumber, regionWriteNumber, regionWritten}
-use Rattle.elements.specs.RwRegion.{rwRegionFields, rwRegionNumber, rwRegionWriteNumber, rwRegionWritten}
+use Rattle.elements.specs.RwRegion.{rwFieldsOf, rwRegionFields, rwRegionNumber, rwRegionWriteNumber, rwRegionWritten}
 use Rattle.elements.specs.SignedImage.{hashTypeOf, mustValidateOf, imageFields, imageNumber, imageHash, imageRegions, imageWriteNumber, imageWritten}
 use Rattle.elements.specs.RootCas.{rootsNumber, rootsFields, rootsHashes, rootsWriteNumber, rootsWritten}
 
@@ -21,9 +21,10 @@ pub record RoundTrips : Type 0 where
       → reply (regionNumber (regionWritten r buffer)) (regionAt (regionWritten r buffer) 0) ≡ reply 0 r
   pub region-again : (b buffer : List ℕ) → Bytes b → regionNumber b ≡ 0 → length buffer ≡ length b
       → (regionWriteNumber (regionAt b 0) buffer ≡ 0) × (regionWritten (regionAt b 0) buffer ≡ b)
-  -- an R/W region
-  pub rw-back : (r : RwRegion) (buffer : List ℕ) → Addresses (r .region) → rwRegionWriteNumber r buffer ≡ 0
-      → reply (rwRegionNumber (rwRegionWritten r buffer)) (rwRegionFields (rwRegionWritten r buffer)) ≡ reply 0 r
+  -- an R/W region; its fields by their numbers fix it
+  pub rw-back : (r : RwRegion) (buffer : List ℕ) → Addresses (r .region) → rwRegionWriteNumber (rwFieldsOf r) buffer ≡ 0
+      → reply (rwRegionNumber (rwRegionWritten (rwFieldsOf r) buffer)) (rwRegionFields (rwRegionWritten (rwFieldsOf r) buffer)) ≡ reply 0 (rwFieldsOf r)
+  pub rw-same : (r s : RwRegion) → rwFieldsOf r ≡ rwFieldsOf s → r ≡ s
   pub rw-again : (b buffer : List ℕ) → Bytes b → rwRegionNumber b ≡ 0 → length buffer ≡ length b
       → (rwRegionWriteNumber (rwRegionFields b) buffer ≡ 0) × (rwRegionWritten (rwRegionFields b) buffer ≡ b)
   -- a signed image: fields, hash and regions

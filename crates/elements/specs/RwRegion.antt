@@ -1,13 +1,16 @@
 -- Document 01 and 002, RWRegion, 12 bytes: "six zero bits and two bits of operation (0 nothing, 1 restore, 2 erase, 3 reserved, which means nothing but
 -- is shown as reserved), three zero bytes, region".
 use Prim.Native.Nat.{ℕ, _/_, _%_, _^_}
-use mathlib.Core.Bool.{Bool, not, cond}
+use mathlib.Core.Bool.{Bool, not}
 use mathlib.Core.List.{List, [], _∷_}
 use lib.ListN.{length, getD}
-use lib.Dec.{eqb}
+use lib.Dec.{ltb, eqb}
 use Rattle.refusal.specs.Rules.{Reply, any}
 use Rattle.elements.specs.declared.rw_region.Operation.{Operation}
 use Rattle.elements.specs.declared.rw_region.Operation.the-variants.{Nothing, Restore, Erase, Reserved}
+use Rattle.elements.specs.declared.rw_region.OperationRead.{OperationRead}
+use Rattle.elements.specs.declared.rw_region.OperationRead.the-variants.{Defined, Undefined}
+use Rattle.elements.specs.declared.region.Region.{Region}
 use Rattle.elements.specs.declared.rw_region.RwRegion.{RwRegion}
 use Rattle.elements.specs.declared.rw_region.RwRegionRead.{RwRegionRead}
 use Rattle.elements.specs.declared.rw_region.RwRegionRead.the-variants.{Read, Malformed}
@@ -17,25 +20,41 @@ use Rattle.elements.specs.Region.{regionUnsound, regionAt, regionBytes}
 abbrev pub rwRegionLength : ℕ
 rwRegionLength = 12
 
--- the number of each operation, and the operation of each number of two bits
+-- ---- operations: "0 nothing, 1 restore, 2 erase, 3 reserved"
+
 abbrev pub operationNumber : Operation → ℕ
 operationNumber Nothing = 0
 operationNumber Restore = 1
 operationNumber Erase = 2
 operationNumber Reserved = 3
 
-abbrev pub operationOf : ℕ → Operation
-operationOf n = cond (eqb n 0) Nothing (cond (eqb n 1) Restore (cond (eqb n 2) Erase Reserved))
+-- "two bits of operation" hold no greater number
+abbrev pub badOperation : ℕ → Bool
+badOperation n = ltb 3 n
+
+-- what a number handed in stands for: the operation with that number, and 12 where there is none
+abbrev pub operationReply : OperationRead → Reply ℕ
+operationReply (Defined o) = record { number = 0; values = operationNumber o ∷ [] }
+operationReply Undefined = record { number = 12; values = [] }
+
+-- ---- the fields, with the operation by its number
+
+pub record RwFields : Type 0 where
+  pub operation : ℕ
+  pub region : Region
+
+abbrev pub rwFieldsOf : RwRegion → RwFields
+rwFieldsOf r = record { operation = operationNumber (r .operation); region = r .region }
 
 -- ---- the reader
 
-abbrev pub rwRegionReply : RwRegionRead → Reply RwRegion
-rwRegionReply (Read r) = record { number = 0; values = r ∷ [] }
+abbrev pub rwRegionReply : RwRegionRead → Reply RwFields
+rwRegionReply (Read r) = record { number = 0; values = rwFieldsOf r ∷ [] }
 rwRegionReply Malformed = record { number = 12; values = [] }
 
 -- the two low bits of the first byte, and the region from index 4 on
-abbrev pub rwRegionFields : List ℕ → RwRegion
-rwRegionFields b = record { operation = operationOf (getD b 0 0 % 2 ^ 2); region = regionAt b 4 }
+abbrev pub rwRegionFields : List ℕ → RwFields
+rwRegionFields b = record { operation = getD b 0 0 % 2 ^ 2; region = regionAt b 4 }
 
 abbrev pub rwRegionFaults : List ℕ → List Bool
 rwRegionFaults b =
@@ -52,11 +71,11 @@ rwRegionNumber b = readNumber (any (rwRegionFaults b))
 
 -- ---- the writer
 
-abbrev pub rwRegionBytes : RwRegion → List ℕ
-rwRegionBytes r = operationNumber (r .operation) ∷ 0 ∷ 0 ∷ 0 ∷ regionBytes (r .region)
+abbrev pub rwRegionBytes : RwFields → List ℕ
+rwRegionBytes f = f .operation ∷ 0 ∷ 0 ∷ 0 ∷ regionBytes (f .region)
 
-abbrev pub rwRegionWriteNumber : RwRegion → List ℕ → ℕ
-rwRegionWriteNumber r buffer = writeNumber (regionUnsound (r .region)) rwRegionLength (length buffer)
+abbrev pub rwRegionWriteNumber : RwFields → List ℕ → ℕ
+rwRegionWriteNumber f buffer = writeNumber (regionUnsound (f .region)) rwRegionLength (length buffer)
 
-abbrev pub rwRegionWritten : RwRegion → List ℕ → List ℕ
-rwRegionWritten r buffer = writtenBy (rwRegionWriteNumber r buffer) (rwRegionBytes r) buffer
+abbrev pub rwRegionWritten : RwFields → List ℕ → List ℕ
+rwRegionWritten f buffer = writtenBy (rwRegionWriteNumber f buffer) (rwRegionBytes f) buffer

@@ -1,5 +1,6 @@
 // The root CAs of a CFM (002, RootCAs): hashes of the root certificates that are trusted. The type of the hashes is the manifest's, and the caller gives it.
 use crate::parts;
+use refusal::Refusal;
 use refusal::Verdict;
 ghost use mathlib.Core.Path.{_≡_};
 ghost use Prim.Native.Nat.{_+_};
@@ -7,7 +8,7 @@ ghost use lib.ListN.{length};
 ghost use Rattle.refusal.specs.Number.{numberOf};
 ghost use Rattle.refusal.specs.Rules.{reply};
 ghost use Rattle.elements.specs.Parts.{readNumber, writeNumber};
-ghost use Rattle.elements.specs.RootCas.{rootsHeadLength, rootsReply, rootsNumber, rootsFields, rootsHashes, rootsHash, rootsFieldsMalformed, rootsWriteNumber, rootsWritten};
+ghost use Rattle.elements.specs.RootCas.{rootsHeadLength, rootsReply, rootsNumber, rootsFields, rootsHashes, rootsHash, rootsHashNumber, rootsFieldsMalformed, rootsWriteNumber, rootsWritten};
 
 // How many hashes there are; the hashes are a part of the element.
 pub struct RootCas {
@@ -50,6 +51,17 @@ impl RootCas {
     {
         let hashes = RootCas::hashes(hash_type, element);
         parts::item(hashes, parts::hash_width(hash_type), i)
+    }
+
+    // The companion of `hash` on the same inputs: 12 where that part is empty.
+    pub fn hash_verdict(hash_type: u8, element: &[u8], i: usize) -> Verdict
+        ensures { λ r. ⌜ numberOf r ≡ rootsHashNumber «hash_type» (now (element .entry)) i ⌝ }
+    {
+        let count = octets::byte_at(element, 0) as usize;
+        if RootCas::malformed(hash_type, element) | (count <= i) {
+            return Verdict::Refused(Refusal::MalformedElement);
+        }
+        Verdict::Accepted
     }
 
     pub fn write(hash_type: u8, hashes: &[u8], buffer: &mut [u8]) -> Verdict

@@ -2,10 +2,11 @@
 use crate::region::Region;
 use refusal::Verdict;
 ghost use mathlib.Core.Path.{_≡_};
+ghost use Prim.Native.Nat.{_%_, _^_};
 ghost use Rattle.refusal.specs.Number.{numberOf};
 ghost use Rattle.refusal.specs.Rules.{reply};
 ghost use Rattle.elements.specs.Parts.{readNumber};
-ghost use Rattle.elements.specs.RwRegion.{operationNumber, operationOf, rwRegionReply, rwRegionFields, rwRegionNumber, rwRegionWriteNumber, rwRegionWritten};
+ghost use Rattle.elements.specs.RwRegion.{operationNumber, badOperation, operationReply, rwFieldsOf, rwRegionReply, rwRegionFields, rwRegionNumber, rwRegionWriteNumber, rwRegionWritten};
 
 pub enum Operation {
     Nothing,
@@ -13,6 +14,12 @@ pub enum Operation {
     Erase,
     // Means nothing, but is shown and written as itself.
     Reserved,
+}
+
+// What a number handed in stands for: one that two bits can't hold is no operation.
+pub enum OperationRead {
+    Defined(Operation),
+    Undefined,
 }
 
 pub struct RwRegion {
@@ -37,11 +44,20 @@ impl Operation {
         }
     }
 
-    // The operation of a number of two bits; Reserved for any above.
-    pub fn of_number(number: u8) -> Operation
-        ensures { λ r. ⌜ r ≡ operationOf number ⌝ }
+    pub fn of_number(number: u8) -> OperationRead
+        ensures { λ r. ⌜ operationReply r ≡ reply (readNumber (badOperation number)) number ⌝ }
     {
-        match number {
+        if 3 < number {
+            return OperationRead::Undefined;
+        }
+        OperationRead::Defined(Operation::of_bits(number))
+    }
+
+    // The operation in the two low bits.
+    pub(crate) fn of_bits(bits: u8) -> Operation
+        ensures { λ r. ⌜ operationNumber r ≡ bits % 2 ^ 2 ⌝ }
+    {
+        match bits & 3 {
             0 => Operation::Nothing,
             1 => Operation::Restore,
             2 => Operation::Erase,
@@ -62,16 +78,15 @@ impl RwRegion {
         if RwRegion::malformed(element) {
             return RwRegionRead::Malformed;
         }
-        let bits = octets::byte_at(element, 0) & 3;
         RwRegionRead::Read(RwRegion {
-            operation: Operation::of_number(bits),
+            operation: Operation::of_bits(octets::byte_at(element, 0)),
             region: Region::at(element, RwRegion::HEAD_LEN),
         })
     }
 
     pub fn write(self, buffer: &mut [u8]) -> Verdict
-        ensures verdict { λ r. ⌜ numberOf r ≡ rwRegionWriteNumber self (now (buffer .entry)) ⌝ }
-        ensures buffer { λ _. ⌜ now (buffer .exit) ≡ rwRegionWritten self (now (buffer .entry)) ⌝ }
+        ensures verdict { λ r. ⌜ numberOf r ≡ rwRegionWriteNumber (rwFieldsOf self) (now (buffer .entry)) ⌝ }
+        ensures buffer { λ _. ⌜ now (buffer .exit) ≡ rwRegionWritten (rwFieldsOf self) (now (buffer .entry)) ⌝ }
     {
         let operation = self.operation;
         let region = self.region;

@@ -1,8 +1,7 @@
 use mathlib.Core.Path.{sym, ap, _∙_}
 use borrow.Author.Needs.{needs}
 use denote.Ref.{now}
-use Rattle.elements.specs.declared.rw_region.RwRegion.{RwRegion}
-use Rattle.elements.specs.RwRegion.{operationNumber, rwRegionFields, rwRegionReply}
+use Rattle.elements.specs.RwRegion.{RwFields, rwRegionFields, rwRegionReply}
 use Rattle.refusal.specs.declared.Refusal.the-variants.{MalformedElement}
 use Rattle.cerberus.proofs.Answers.{put, kept, reply-refused, reply-value}
 use Rattle.cerberus.proofs.regions.cerberus_rw_region_read.Statement.{statement}
@@ -20,8 +19,8 @@ returns-2 c =
     let k = reply-value (rwRegionFields (now (a .element))) (ap rwRegionReply (sym (c .before .before .before .read2 .given .1)) ∙ c .before .before .before .before .before .read .ensures) in (
       sym (k .0),
       (
-        put _ (k .0) (c .number2 .ensures ∙ ap (λ (r : RwRegion). operationNumber (r .operation)) (k .1)),
-        (put _ (k .0) (ap (λ (r : RwRegion). r .region .start) (k .1)), put _ (k .0) (ap (λ (r : RwRegion). r .region .end) (k .1))),
+        put _ (k .0) (c .number2 .ensures ∙ ap (λ (f : RwFields). f .operation) (k .1)),
+        (put _ (k .0) (ap (λ (f : RwFields). f .region .start) (k .1)), put _ (k .0) (ap (λ (f : RwFields). f .region .end) (k .1))),
       ),
     )
 

@@ -2,8 +2,7 @@ use Prim.Native.Nat.{ℕ, _%_, _^_}
 use mathlib.Core.Path.{ap, _∙_}
 use borrow.Author.Needs.{needs}
 use Rattle.elements.proofs.Verdicts.{malformed-reply, sound-reply}
-use lib.Bits.{and-mask}
-use Rattle.elements.specs.RwRegion.{operationOf, rwRegionFields}
+use Rattle.elements.specs.RwRegion.{rwRegionFields}
 use Rattle.elements.proofs.rw_region.RwRegion.read.Statement.{statement}
 use Rattle.elements.proofs.rw_region.RwRegion.read.Tie as tie
 
@@ -12,7 +11,7 @@ returns c = malformed-reply (rwRegionFields (c .before .before .before .args .el
 
 returns-2 : tie.Need-returns-2
 returns-2 c =
-    let operation = c .before .of-number .ensures ∙ ap operationOf (and-mask (c .before .before .byte-at .result) 2 ∙ ap (λ (n : ℕ). n % 2 ^ 2) (c .before .before .byte-at .ensures)) in
+    let operation = c .before .of-bits .ensures ∙ ap (λ (n : ℕ). n % 2 ^ 2) (c .before .before .byte-at .ensures) in
     sound-reply (c .before .before .before .before .malformed .ensures) (c .before .before .before .if1 .left) (λ i. record { operation = operation i; region = c .at .ensures i })
 
 pub read-spec : {M : Type 1} → statement M

@@ -6,7 +6,7 @@ use lib.ListN.{length}
 use Rattle.elements.proofs.Verdicts.{kept, written, write-accepted}
 use Rattle.octets.specs.Octets.{pasted}
 use Rattle.elements.specs.Region.{regionUnsound, regionBytes}
-use Rattle.elements.specs.RwRegion.{operationNumber, rwRegionBytes}
+use Rattle.elements.specs.RwRegion.{operationNumber, rwFieldsOf, rwRegionBytes}
 use Rattle.refusal.proofs.Laws.{says-yes}
 use Rattle.elements.proofs.Filled.{fill-two}
 use Rattle.elements.proofs.rw_region.RwRegion.write.Statement.{statement}
@@ -17,7 +17,7 @@ returns c =
     let a = c .before .before .before .before .before .args in
     let b = a .buffer .now in
     let n = c .before .before .write-verdict .ensures in
-    (n, kept (rwRegionBytes (a .self)) b n (c .enum-told2 .given .1))
+    (n, kept (rwRegionBytes (rwFieldsOf (a .self))) b n (c .enum-told2 .given .1))
 
 returns-2 : tie.Need-returns-2
 returns-2 c =
