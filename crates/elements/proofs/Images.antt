@@ -38,7 +38,7 @@ image-sound t hash regions e =
       sound = p .1 .1 .1 .0;
     }
 
-sound-image : (hashType : ℕ) (hash regions : List ℕ) → ImageSound hashType hash regions → imageFieldsMalformed hashType hash regions ≡ false
+pub sound-image : (hashType : ℕ) (hash regions : List ℕ) → ImageSound hashType hash regions → imageFieldsMalformed hashType hash regions ≡ false
 unfolding imageFieldsMalformed
 sound-image t hash regions k =
     no-any (imageFieldFaults t hash regions) (le-ltb 2 t (k .known), (equal-no (k .hash-length), (items-good regionLength regions (k .items), (k .sound, tt))))

@@ -9,4 +9,3 @@ pub mod Images
 pub mod Roots
 pub mod ByNumber
 pub mod RoundTrips
-pub mod Examples

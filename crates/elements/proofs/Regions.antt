@@ -42,7 +42,7 @@ region-rest b i y h = region-bytes b i y (omega arith) ∙ take-all 8 (drop i b)
 
 -- ---- an element that the reader accepts
 
-region-element : (b : List ℕ) → regionNumber b ≡ 0 → (length b ≡ regionLength) × (regionUnsound (regionAt b 0) ≡ false)
+pub region-element : (b : List ℕ) → regionNumber b ≡ 0 → (length b ≡ regionLength) × (regionUnsound (regionAt b 0) ≡ false)
 unfolding regionNumber
 region-element b e = let p = any-no (regionFaults b) (read-accepted _ e) in (no-equal _ _ (p .0), p .1 .0)
 

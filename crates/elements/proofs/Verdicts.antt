@@ -4,6 +4,7 @@ use mathlib.Core.Path.{_≡_, refl, sym, ap, _∙_}
 use mathlib.Core.Bool.{Bool, true, false, not}
 use mathlib.Core.List.{List, [], _∷_}
 use native.Mathlib.Omega.{arith}
+use borrow.Author.Tests.{ne-eqb}
 use lib.Dec.{eqb, lit<}
 use Rattle.refusal.specs.declared.Refusal.{Refusal}
 use Rattle.refusal.specs.declared.Verdict.{Verdict}
@@ -48,6 +49,10 @@ written {x = x} b e f g = g ∙ sym (accepted-yes x b (says-yes e f))
 
 pub write-yes : {m : Bool} {n k : ℕ} → m ≡ false → k ≡ n → writeNumber m n k ≡ 0
 write-yes {n = n} {k = k} e f = rw (e, equal-no f)
+
+-- sound fields, and a buffer of another length
+pub write-wrong-buffer : {m : Bool} {n k : ℕ} → m ≡ false → (k ≡ n → ⊥) → writeNumber m n k ≡ 3
+write-wrong-buffer {n = n} {k = k} e f = rw (e, ne-eqb k n f)
 
 -- an accepted writer's fields are sound, and its buffer has the element's length
 pub write-accepted : (m : Bool) (n k : ℕ) → writeNumber m n k ≡ 0 → (m ≡ false) × (k ≡ n)

@@ -6,4 +6,3 @@ pub mod SignedImage
 pub mod RootCas
 pub mod ByNumber
 pub mod RoundTrips
-pub mod Examples

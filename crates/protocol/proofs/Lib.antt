@@ -1,4 +1,3 @@
 pub mod Flags
 pub mod Effects
 pub mod Laws
-pub mod Examples

@@ -2,4 +2,3 @@
 pub mod Header
 pub mod Command
 pub mod Laws
-pub mod Examples

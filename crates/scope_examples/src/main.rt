@@ -1,4 +1,4 @@
-// Runs document 01's "Examples at the edges" that are not marked P, and says of each whether it came out as written there.
+// Runs document 01's "Examples at the edges" that are not marked P, and says of each whether it came out as written there. Those marked P are the table in specs/.
 mod elements_examples;
 mod log_examples;
 mod slot_examples;
