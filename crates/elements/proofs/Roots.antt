@@ -43,8 +43,8 @@ sound-roots t hashes k = no-any (rootsFieldFaults t hashes) (le-ltb 2 t (k .know
 -- ---- an element that the reader accepts
 
 pub record RootsElement (hashType : ℕ) (b : List ℕ) : Type 0 where
-  pub known : hashType ≤ 2
   pub long : length b ≡ rootsHeadLength + hashWidth hashType * rootCountOf b
+  pub known : hashType ≤ 2
   pub some : rootCountOf b ≡ 0 → ⊥
   pub zero1 : getD b 1 0 ≡ 0
   pub zero2 : getD b 2 0 ≡ 0
@@ -55,8 +55,8 @@ unfolding rootsNumber
 roots-element t b e =
     let p = any-no (rootsFaults t b) (read-accepted _ e) in
     record {
-      known = ltb-false 2 t (p .0);
-      long = no-equal _ _ (p .1 .0);
+      long = no-equal _ _ (p .0);
+      known = ltb-false 2 t (p .1 .0);
       some = eqb-false (rootCountOf b) 0 (p .1 .1 .0);
       zero1 = no-equal _ _ (p .1 .1 .1 .0);
       zero2 = no-equal _ _ (p .1 .1 .1 .1 .0);
@@ -68,8 +68,8 @@ unfolding rootsNumber
 roots-accepted t b k =
     read-yes
     (no-any (rootsFaults t b) (
-      le-ltb 2 t (k .known),
-      (equal-no (k .long), (ne-eqb (rootCountOf b) 0 (k .some), (equal-no (k .zero1), (equal-no (k .zero2), (equal-no (k .zero3), tt))))),
+      equal-no (k .long),
+      (le-ltb 2 t (k .known), (ne-eqb (rootCountOf b) 0 (k .some), (equal-no (k .zero1), (equal-no (k .zero2), (equal-no (k .zero3), tt))))),
     ))
 
 -- ---- a hash by its number

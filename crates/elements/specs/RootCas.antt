@@ -25,8 +25,8 @@ rootsReply Malformed = record { number = 12; values = [] }
 
 abbrev pub rootsFaults : ℕ → List ℕ → List Bool
 rootsFaults hashType b =
-    badHashType hashType
-    ∷ not (eqb (length b) (rootsHeadLength + hashWidth hashType * rootCountOf b))
+    not (eqb (length b) (rootsHeadLength + hashWidth hashType * rootCountOf b))
+    ∷ badHashType hashType
     ∷ eqb (rootCountOf b) 0
     ∷ not (eqb (getD b 1 0) 0)
     ∷ not (eqb (getD b 2 0) 0)

@@ -85,8 +85,8 @@ impl RootCas {
         let count = octets::byte_at(element, 0);
         let n = count as usize;
         let width = parts::hash_width(hash_type);
-        (2 < hash_type)
-            | (element.len() != RootCas::HEAD_LEN + width * n)
+        (element.len() != RootCas::HEAD_LEN + width * n)
+            | (2 < hash_type)
             | (count == 0)
             | (octets::byte_at(element, 1) != 0)
             | (octets::byte_at(element, 2) != 0)

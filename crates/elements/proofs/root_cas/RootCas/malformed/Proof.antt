@@ -22,8 +22,8 @@ unfolding rootsNumber
 returns c =
     let a = c .before .before .before .before .before .before .args in
     (λ i. readNumber (
-    ltb 2 (a .hash-type)
-    || not (eqb (length (a .element .now)) (4 + c .before .before .before .hash-width .ensures .0 i * c .before .before .before .before .byte-at .ensures i))
+    not (eqb (length (a .element .now)) (4 + c .before .before .before .hash-width .ensures .0 i * c .before .before .before .before .byte-at .ensures i))
+    || ltb 2 (a .hash-type)
     || eqb (c .before .before .before .before .byte-at .ensures i) 0
     || not (eqb (c .before .before .byte-at2 .ensures i) 0)
     || not (eqb (c .before .byte-at3 .ensures i) 0)

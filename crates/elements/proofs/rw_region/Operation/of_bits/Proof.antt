@@ -1,4 +1,5 @@
-use mathlib.Core.Path.{sym, _∙_}
+use Prim.Native.Nat.{_%_, _^_}
+use mathlib.Core.Path.{_≡_, sym, _∙_}
 use native.Mathlib.Omega.{arith}
 use lib.Bits.{and-mask}
 use Rattle.elements.proofs.rw_region.Operation.of_bits.Statement.{statement}
@@ -16,7 +17,8 @@ returns-3 c = sym (c .match .keys3) ∙ and-mask (c .before .args .bits) 2
 returns-4 : tie.Need-returns-4
 returns-4 c =
     let r = c .match .rest in
-    omega (arith, and-mask (c .before .args .bits) 2, r .0 .0 .1, r .0 .1, r .1)
+    let last : c .before .args .bits % 2 ^ 2 ≡ 3 = omega (arith, and-mask (c .before .args .bits) 2, r .0 .0 .1, r .0 .1, r .1) in
+    sym last
 
 pub of-bits-spec : {M : Type 1} → statement M
 of-bits-spec = tie.close
