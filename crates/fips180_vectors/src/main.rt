@@ -3,15 +3,10 @@
 // The digests of the empty message, of "abc", of the messages of 448 and 896 bits and of a million times "a" were written from memory as the published ones of these
 // well-known messages, and each was compared with Python's hashlib, an implementation of its own. Those of the pattern, whose byte i is i, are
 // hashlib's, at the lengths around each change in the number of padded blocks. None was taken from this code.
-use libc::STDOUT_FILENO;
 use vector_report::Tally;
 use vector_report::counting::counting_bytes;
 ghost use mathlib.Core.Path.{_≡_};
 ghost use lib.ListN.{length};
-
-fn put(text: &[u8]) {
-    io::write_all(STDOUT_FILENO, text);
-}
 
 // Hashes a message and writes whether the digest is the expected one, or which other it is.
 fn compare(tally: Tally, message: &[u8], expected: &[u8; 64]) -> Tally {
@@ -21,8 +16,7 @@ fn compare(tally: Tally, message: &[u8], expected: &[u8; 64]) -> Tally {
 }
 
 fn vector(tally: Tally, name: &[u8], message: &[u8], expected: &[u8; 64]) -> Tally {
-    put(name);
-    compare(tally, message, expected)
+    compare(tally.text(name), message, expected)
 }
 
 fn published(tally: Tally) -> Tally {
@@ -70,13 +64,11 @@ fn million(tally: Tally) -> Tally {
 
 // The first n bytes of the pattern, all of it where n is more.
 fn pattern(tally: Tally, m: &[u8], n: usize, expected: &[u8; 64]) -> Tally {
-    put(b"pattern of ");
-    io::print_decimal(STDOUT_FILENO, n as u64);
-    put(b" bytes");
+    let named = tally.labelled(b"pattern of ", n as u64).text(b" bytes");
     if n < m.len() {
-        return compare(tally, &m[0..n], expected);
+        return compare(named, &m[0..n], expected);
     }
-    compare(tally, m, expected)
+    compare(named, m, expected)
 }
 
 fn one_block(tally: Tally, m: &[u8]) -> Tally {
@@ -244,11 +236,7 @@ fn boundaries(tally: Tally) -> Tally {
 }
 
 fn main() {
-    let t1 = published(Tally { run: 0, differ: 0 });
+    let t1 = published(Tally::new());
     let t2 = million(t1);
-    let t3 = boundaries(t2);
-    io::print_decimal(STDOUT_FILENO, t3.run);
-    put(b" vectors, ");
-    io::print_decimal(STDOUT_FILENO, t3.differ);
-    put(b" differ\n");
+    boundaries(t2).summary();
 }

@@ -1,17 +1,14 @@
 // HMAC-SHA-256 (FIPS 198-1) of one text under keys of lengths around the block's 64 bytes. The values are OpenSSL's (`openssl mac -digest SHA256 -macopt hexkey:..
 // HMAC`), and Python's hmac gave the same. Zeros fill a short key's block, so that the keys of 0 bytes and of 1 byte, a zero, have the same MAC.
 use crate::keys;
-use crate::report;
 use hmac::hmac_sha256;
 use vector_report::Tally;
 
 fn key_of(tally: Tally, m: &[u8], n: usize, expected: &[u8; 64]) -> Tally {
-    report::put(b"key of ");
-    report::put_number(n as u64);
-    report::put(b" bytes");
+    let named = tally.labelled(b"key of ", n as u64).text(b" bytes");
     let answer = hmac_sha256(keys::first(m, n), b"pairing");
     let mac = answer.mac;
-    tally.compare(&mac, expected)
+    named.compare(&mac, expected)
 }
 
 // The keys are the first bytes of m, whose byte i is i.

@@ -4,7 +4,6 @@
 mod key_lengths;
 mod keys;
 mod pairing_keys;
-mod report;
 mod rfc4231;
 
 use vector_report::Tally;
@@ -12,11 +11,7 @@ use vector_report::counting::counting_bytes;
 
 fn main() {
     let m = counting_bytes();
-    let t1 = rfc4231::run(Tally { run: 0, differ: 0 });
+    let t1 = rfc4231::run(Tally::new());
     let t2 = key_lengths::run(t1, &m);
-    let t3 = pairing_keys::run(t2, &m);
-    report::put_number(t3.run);
-    report::put(b" vectors, ");
-    report::put_number(t3.differ);
-    report::put(b" differ\n");
+    pairing_keys::run(t2, &m).summary();
 }

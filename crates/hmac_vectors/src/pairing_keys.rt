@@ -1,18 +1,17 @@
 // Pairing keys (document 02, Item 14) from session keys of several lengths. The values are those of OpenSSL 3.0's KBKDF, whose salt is the label of NIST SP 800-108:
 // `openssl kdf -keylen 32 -kdfopt mac:HMAC -kdfopt digest:SHA256 -kdfopt hexkey:.. -kdfopt salt:pairing KBKDF`. KBKDFHMAC of Python's cryptography gave the same.
 use crate::keys;
-use crate::report;
 use pairing::pairing_key;
 use vector_report::Tally;
 
 // A refusal would leave zeros, which no vector has.
 fn from_key_of(tally: Tally, m: &[u8], n: usize, expected: &[u8; 64]) -> Tally {
-    report::put(b"pairing key from ");
-    report::put_number(n as u64);
-    report::put(b" bytes");
+    let named = tally
+        .labelled(b"pairing key from ", n as u64)
+        .text(b" bytes");
     let mut key = [0u8; 32];
     pairing_key(keys::first(m, n), &mut key);
-    tally.compare(&key, expected)
+    named.compare(&key, expected)
 }
 
 fn within_a_block(tally: Tally, m: &[u8]) -> Tally {

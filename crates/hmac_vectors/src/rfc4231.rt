@@ -1,28 +1,26 @@
 // The test cases of RFC 4231 for HMAC-SHA-256. Keys, data and values are RFC 4231's as quoted in CPython's own test suite (Lib/test/test_hmac.py). That leaves
 // out case 5, which was written from memory, key, data and value. Python's hmac and OpenSSL's (`openssl mac -digest SHA256 .. HMAC`) were run on each case and
 // gave the value here, in case 5 as the first 128 bits of theirs.
-use crate::report;
 use hmac::hmac_sha256;
 use vector_report::Tally;
 
-fn put_case(n: u64) {
-    report::put(b"RFC 4231, case ");
-    report::put_number(n);
+fn begin(tally: Tally, n: u64) -> Tally {
+    tally.labelled(b"RFC 4231, case ", n)
 }
 
 fn case(tally: Tally, n: u64, key: &[u8], data: &[u8], expected: &[u8; 64]) -> Tally {
-    put_case(n);
+    let named = begin(tally, n);
     let answer = hmac_sha256(key, data);
     let mac = answer.mac;
-    tally.compare(&mac, expected)
+    named.compare(&mac, expected)
 }
 
 // Case 5, whose output is truncated to 128 bits.
 fn truncated(tally: Tally) -> Tally {
-    put_case(5);
+    let named = begin(tally, 5);
     let answer = hmac_sha256(&[0x0cu8; 20], b"Test With Truncation");
     let mac = answer.mac;
-    tally.compare(&mac[0..16], b"a3b6167473100ee06e0c796c2955552b")
+    named.compare(&mac[0..16], b"a3b6167473100ee06e0c796c2955552b")
 }
 
 fn short_keys(tally: Tally) -> Tally {

@@ -1,45 +1,79 @@
 // A line for each vector that a program runs, and how many there were: what was computed is compared with the hexadecimal text that was published.
 pub mod counting;
 
-use libc::STDOUT_FILENO;
+use report::Report;
 ghost use mathlib.Core.Path.{_≡_};
 ghost use Rattle.vector_report.specs.Counts.{oneMore, differing};
 
-// How many vectors were run, and how many of them differ.
+// How many vectors were run, how many of them differ, and the report that says so.
 pub struct Tally {
     pub run: u64,
     pub differ: u64,
-}
-
-fn put_hex(bytes: &[u8]) {
-    let mut i: usize = 0;
-    while i < bytes.len() {
-        let digits = hex_text::byte_text(bytes[i]);
-        io::write_all(STDOUT_FILENO, &digits);
-        i += 1;
-    }
+    pub report: Report,
 }
 
 impl Tally {
+    pub fn new() -> Self
+        ensures { λ r. ⌜ (r .run ≡ 0) × (r .differ ≡ 0) ⌝ }
+    {
+        Tally {
+            run: 0,
+            differ: 0,
+            report: Report::new(),
+        }
+    }
+
+    // A part of what a vector's line begins with.
+    pub fn text(self, text: &[u8]) -> Self
+        ensures { λ r. ⌜ (r .run ≡ self .run) × (r .differ ≡ self .differ) ⌝ }
+    {
+        let report = self.report;
+        Tally {
+            run: self.run,
+            differ: self.differ,
+            report: report.text(text),
+        }
+    }
+
+    pub fn labelled(self, label: &[u8], n: u64) -> Self
+        ensures { λ r. ⌜ (r .run ≡ self .run) × (r .differ ≡ self .differ) ⌝ }
+    {
+        let report = self.report;
+        Tally {
+            run: self.run,
+            differ: self.differ,
+            report: report.labelled(label, n),
+        }
+    }
+
     // Ends a vector's line: whether the computed bytes are the expected ones, or which others they are.
     pub fn compare(self, computed: &[u8], expected: &[u8]) -> Self
         ensures run { λ r. ⌜ r .run ≡ oneMore (self .run) ⌝ }
         ensures differ { λ r. ⌜ r .differ ≡ differing (now (computed .entry)) (now (expected .entry)) (self .differ) ⌝ }
     {
+        let report = self.report;
         let run = std::num::wrapping_add_u64(self.run, 1);
         if hex_text::same(computed, expected) {
-            io::write_all(STDOUT_FILENO, b": ok\n");
             return Tally {
                 run,
                 differ: self.differ,
+                report: report.text(b": ok\n"),
             };
         }
-        io::write_all(STDOUT_FILENO, b": ");
-        put_hex(computed);
-        io::write_all(STDOUT_FILENO, b"\n");
+        let differ = std::num::wrapping_add_u64(self.differ, 1);
         Tally {
             run,
-            differ: std::num::wrapping_add_u64(self.differ, 1),
+            differ,
+            report: report.text(b": ").bytes(computed).text(b"\n"),
         }
+    }
+
+    // The last line.
+    pub fn summary(self) -> Self
+        ensures { λ r. ⌜ (r .run ≡ self .run) × (r .differ ≡ self .differ) ⌝ }
+    {
+        let counted = self.labelled(b"", self.run)
+            .labelled(b" vectors, ", self.differ);
+        counted.text(b" differ\n")
     }
 }

@@ -13,12 +13,13 @@ returns c =
 
 returns-2 : tie.Need-returns-2
 returns-2 c =
-    let tested = c .before .before .before .before .before .before in (
+    let counted = c .before .before .before .before .before in
+    let tested = counted .before in (
       tested .before .before .wrapping-add-u64 .ensures,
-      c .wrapping-add-u642 .ensures ∙ differs _ _ _ _ (tested .before .same .ensures) (tested .if1 .left),
+      counted .wrapping-add-u642 .ensures ∙ differs _ _ _ _ (tested .before .same .ensures) (tested .if1 .left),
     )
 
 pub compare-spec : {M : Type 1} → statement M
 compare-spec =
     tie.close
-    (tie.spec (λ c κs. search needs) (λ c κs. search needs) (λ c. search needs) (λ c κs. search needs) returns (λ c. search needs) (λ c κs. search needs) (λ c κs. search needs) (λ c. search needs) (λ c κs. search needs) (λ c κs. search needs) returns-2)
+    (tie.spec (λ c κs. search needs) (λ c κs. search needs) (λ c. search needs) (λ c κs. search needs) returns (λ c κs. search needs) (λ c. search needs) (λ c κs. search needs) (λ c κs. search needs) (λ c. search needs) (λ c κs. search needs) returns-2)
