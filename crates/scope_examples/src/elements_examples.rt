@@ -3,6 +3,7 @@ use crate::show;
 use elements::signed_image::SignedImage;
 use elements::signed_image::SignedImageRead;
 use refusal::Refusal;
+use report::Report;
 
 // The reader's number for an element that is all zero but for its hash type and region count: each region is from 0 to 0.
 fn read_number(hash_type: u8, region_count: u8, element: &mut [u8]) -> u8 {
@@ -23,55 +24,63 @@ fn write_number(buffer: &mut [u8]) -> u8 {
     verdict.number()
 }
 
-fn sha512_two_regions() {
+fn sha512_two_regions(report: Report) -> Report {
     let mut right = [0u8; 84];
     let mut short = [0u8; 83];
     let mut long = [0u8; 85];
-    show(
+    let r1 = show(
+        report,
         b"SHA-512 and two regions, 84 bytes: read",
         read_number(2, 2, &mut right) == 0,
     );
-    show(
+    let r2 = show(
+        r1,
         b"SHA-512 and two regions, 83 bytes: 12",
         read_number(2, 2, &mut short) == 12,
     );
-    show(
+    let r3 = show(
+        r2,
         b"SHA-512 and two regions, 85 bytes: 12",
         read_number(2, 2, &mut long) == 12,
     );
-    show(
+    let r4 = show(
+        r3,
         b"SHA-512 and two regions, a buffer of 84 bytes: written",
         write_number(&mut right) == 0,
     );
-    show(
+    let r5 = show(
+        r4,
         b"SHA-512 and two regions, a buffer of 83 bytes: 3",
         write_number(&mut short) == 3,
     );
     show(
+        r5,
         b"SHA-512 and two regions, a buffer of 85 bytes: 3",
         write_number(&mut long) == 3,
-    );
+    )
 }
 
-fn sha256_one_region() {
+fn sha256_one_region(report: Report) -> Report {
     let mut right = [0u8; 44];
     let mut short = [0u8; 43];
     let mut long = [0u8; 45];
-    show(
+    let r1 = show(
+        report,
         b"SHA-256 and one region, 44 bytes: read",
         read_number(0, 1, &mut right) == 0,
     );
-    show(
+    let r2 = show(
+        r1,
         b"SHA-256 and one region, 43 bytes: 12",
         read_number(0, 1, &mut short) == 12,
     );
     show(
+        r2,
         b"SHA-256 and one region, 45 bytes: 12",
         read_number(0, 1, &mut long) == 12,
-    );
+    )
 }
 
-pub(crate) fn run() {
-    sha512_two_regions();
-    sha256_one_region();
+pub(crate) fn run(report: Report) -> Report {
+    sha256_one_region(sha512_two_regions(report))
 }

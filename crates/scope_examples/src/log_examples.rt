@@ -3,6 +3,7 @@ use crate::show;
 use attestation_log::Log;
 use attestation_log::Pmr;
 use attestation_log::Start;
+use report::Report;
 
 // Document 01's first record: PMR0, event type 10, digest all zero. The measurement, SHA-256 of 64 zero bytes, is Python's hashlib's.
 const FIRST: [u8; 87] =
@@ -11,41 +12,50 @@ const FIRST: [u8; 87] =
 \x20\x00\x00\x00\
 \xf5\xa5\xfd\x42\xd1\x6a\x20\x30\x27\x98\xef\x6e\xd3\x09\x97\x9b\x43\x00\x3d\x23\x20\xd9\xf0\xe8\xea\x98\x31\xa9\x27\x59\xfb\x4b";
 
-fn reads_as_zeros(log: Log, pmr: u8, buffer: &[u8]) -> bool {
-    let read = log.register(Pmr(pmr), buffer);
+fn reads_as_zeros(log: Log, pmr: Pmr, buffer: &[u8]) -> bool {
+    let read = log.register(pmr, buffer);
     let verdict = read.verdict;
     let bytes = read.bytes;
     verdict.number() == 0 && octets::all_zero(&bytes)
 }
 
-fn fresh_registers(log: Log, buffer: &[u8]) {
-    show(
+fn fresh_registers(report: Report, log: Log, buffer: &[u8]) -> Report {
+    let r1 = show(
+        report,
         b"a fresh PMR0 reads as zeros",
-        reads_as_zeros(log, 0, buffer),
+        reads_as_zeros(log, Pmr(0), buffer),
     );
-    show(
+    let r2 = show(
+        r1,
         b"a fresh PMR1 reads as zeros",
-        reads_as_zeros(log, 1, buffer),
+        reads_as_zeros(log, Pmr(1), buffer),
     );
-    show(
+    let r3 = show(
+        r2,
         b"a fresh PMR2 reads as zeros",
-        reads_as_zeros(log, 2, buffer),
+        reads_as_zeros(log, Pmr(2), buffer),
     );
-    show(
+    let r4 = show(
+        r3,
         b"a fresh PMR3 reads as zeros",
-        reads_as_zeros(log, 3, buffer),
+        reads_as_zeros(log, Pmr(3), buffer),
     );
     show(
+        r4,
         b"a fresh PMR4 reads as zeros",
-        reads_as_zeros(log, 4, buffer),
-    );
+        reads_as_zeros(log, Pmr(4), buffer),
+    )
 }
 
-fn first_record(log: Log, buffer: &mut [u8]) {
+fn first_record(report: Report, log: Log, buffer: &mut [u8]) -> Report {
     let recorded = log.record(Pmr(0), 10, [0u8; 32], buffer);
     let next = recorded.log;
     let text = next.read_out(buffer);
-    show(b"the first record's 87 bytes", octets::same(text, &FIRST));
+    show(
+        report,
+        b"the first record's 87 bytes",
+        octets::same(text, &FIRST),
+    )
 }
 
 // The number that the last of n records gives.
@@ -64,20 +74,20 @@ fn last_of(n: usize, log: Log, buffer: &mut [u8]) -> u8 {
     last
 }
 
-fn on_fresh_log(log: Log, buffer: &mut [u8]) {
-    fresh_registers(log, buffer);
-    first_record(log, buffer);
+fn on_fresh_log(report: Report, log: Log, buffer: &mut [u8]) -> Report {
+    let r1 = fresh_registers(report, log, buffer);
+    let r2 = first_record(r1, log, buffer);
     Log::reset(buffer);
-    show(b"the 64th record passes", last_of(64, log, buffer) == 0);
+    let r3 = show(r2, b"the 64th record passes", last_of(64, log, buffer) == 0);
     Log::reset(buffer);
-    show(b"the 65th record is 7", last_of(65, log, buffer) == 7);
+    show(r3, b"the 65th record is 7", last_of(65, log, buffer) == 7)
 }
 
-pub(crate) fn run() {
+pub(crate) fn run(report: Report) -> Report {
     let mut buffer = [0xffu8; Log::BUFFER_LEN];
     let start = Log::reset(&mut buffer);
     match start {
-        Start::Refused(_) => show(b"a reset of 5,568 bytes is accepted", false),
-        Start::Started(log) => on_fresh_log(log, &mut buffer),
+        Start::Refused(_) => show(report, b"a reset of 5,568 bytes is accepted", false),
+        Start::Started(log) => on_fresh_log(report, log, &mut buffer),
     }
 }

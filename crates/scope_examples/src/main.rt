@@ -3,20 +3,20 @@ mod elements_examples;
 mod log_examples;
 mod slot_examples;
 
-use libc::STDOUT_FILENO;
+use report::Report;
 
 // One line for each example.
-pub(crate) fn show(example: &[u8], as_written: bool) {
-    io::write_all(STDOUT_FILENO, example);
+pub(crate) fn show(report: Report, example: &[u8], as_written: bool) -> Report {
+    let out = report.text(example);
     if as_written {
-        io::write_all(STDOUT_FILENO, b": as written\n");
+        out.text(b": as written\n")
     } else {
-        io::write_all(STDOUT_FILENO, b": DIFFERS\n");
+        out.text(b": DIFFERS\n")
     }
 }
 
 fn main() {
-    elements_examples::run();
-    log_examples::run();
-    slot_examples::run();
+    let r1 = elements_examples::run(Report::new());
+    let r2 = log_examples::run(r1);
+    slot_examples::run(r2);
 }

@@ -2,6 +2,7 @@
 use crate::show;
 use manifest::Opening;
 use manifest::Slot;
+use report::Report;
 
 // The manifest type of a PCD (002).
 const MAGIC: u16 = 0x1029;
@@ -15,17 +16,27 @@ fn prepared(slot: Slot, total: u32, pending: &[u8], active: &[u8]) -> u8 {
     verdict.number()
 }
 
-fn totals(slot: Slot, pending: &[u8], active: &[u8]) {
-    show(b"total 12 is 5", prepared(slot, 12, pending, active) == 5);
-    show(b"total 13 passes", prepared(slot, 13, pending, active) == 0);
-    show(
+fn totals(report: Report, slot: Slot, pending: &[u8], active: &[u8]) -> Report {
+    let r1 = show(
+        report,
+        b"total 12 is 5",
+        prepared(slot, 12, pending, active) == 5,
+    );
+    let r2 = show(
+        r1,
+        b"total 13 passes",
+        prepared(slot, 13, pending, active) == 0,
+    );
+    let r3 = show(
+        r2,
         b"total 4,096 passes",
         prepared(slot, 4096, pending, active) == 0,
     );
     show(
+        r3,
         b"total 4,097 is 5",
         prepared(slot, 4097, pending, active) == 5,
-    );
+    )
 }
 
 // The slot after the manifest has arrived and become active.
@@ -38,7 +49,7 @@ fn activated(slot: Slot, pending: &mut [u8], active: &mut [u8]) -> Slot {
     done.slot
 }
 
-fn get_pcd_id(slot: Slot, pending: &mut [u8], active: &mut [u8]) {
+fn get_pcd_id(report: Report, slot: Slot, pending: &mut [u8], active: &mut [u8]) -> Report {
     let mut response = [0xffu8; 12];
     let outcome = protocol::command(
         slot,
@@ -49,34 +60,37 @@ fn get_pcd_id(slot: Slot, pending: &mut [u8], active: &mut [u8]) {
         &mut response,
     );
     let verdict = outcome.verdict;
-    show(
+    let r1 = show(
+        report,
         b"Get PCD Id is accepted and writes ten bytes",
         verdict.number() == 0 && outcome.written == 10,
     );
     show(
+        r1,
         b"with id 0x01020304 active it ends 01 04 03 02 01, and the bytes behind it stay",
         octets::same(
             &response,
             b"\x7e\x14\x14\x00\x62\x01\x04\x03\x02\x01\xff\xff",
         ),
-    );
+    )
 }
 
-fn on_open_slot(slot: Slot, pending: &mut [u8], active: &mut [u8]) {
-    totals(slot, pending, active);
+fn on_open_slot(report: Report, slot: Slot, pending: &mut [u8], active: &mut [u8]) -> Report {
+    let out = totals(report, slot, pending, active);
     let active_slot = activated(slot, pending, active);
-    get_pcd_id(active_slot, pending, active);
+    get_pcd_id(out, active_slot, pending, active)
 }
 
-pub(crate) fn run() {
+pub(crate) fn run(report: Report) -> Report {
     let mut pending = [0xffu8; Slot::BUFFER_LEN];
     let mut active = [0xffu8; Slot::BUFFER_LEN];
     let opening = Slot::open(MAGIC, &mut pending, &mut active);
     match opening {
         Opening::Refused(_) => show(
+            report,
             b"an opening with two buffers of 4,096 bytes is accepted",
             false,
         ),
-        Opening::Opened(slot) => on_open_slot(slot, &mut pending, &mut active),
+        Opening::Opened(slot) => on_open_slot(report, slot, &mut pending, &mut active),
     }
 }
