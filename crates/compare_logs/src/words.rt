@@ -17,18 +17,19 @@ fn write_agrees(report: Report, records: u8) -> Report {
     }
 }
 
+// So many records.
+fn write_records(report: Report, label: &[u8], k: u8) -> Report {
+    let out = report.labelled(label, k as u64);
+    if k == 1 {
+        return out.text(b" record");
+    }
+    out.text(b" records")
+}
+
 // One log ends after k records of the PMR, the other has n.
 fn write_end(report: Report, ends: &[u8], k: u8, other: &[u8], n: u8) -> Report {
-    let out = report.labelled(ends, k as u64);
-    if k == 1 {
-        out.text(b" record, ")
-            .labelled(other, n as u64)
-            .text(b".\n")
-    } else {
-        out.text(b" records, ")
-            .labelled(other, n as u64)
-            .text(b".\n")
-    }
+    let ended = write_records(report, ends, k).text(b", ");
+    ended.labelled(other, n as u64).text(b".\n")
 }
 
 // The first difference is at this place among the PMR's records.

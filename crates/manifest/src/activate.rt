@@ -24,10 +24,11 @@ impl Slot {
         let length = header::total_length(manifest) as usize;
         let magic = header::magic(manifest);
         let signature = header::signature_length(manifest) as usize;
+        let expected = self.magic;
         if length != total {
             return true;
         }
-        if magic != self.magic {
+        if magic != expected {
             return true;
         }
         if signature == 0 {

@@ -3,6 +3,7 @@ use libc::STDOUT_FILENO;
 use refusal::Refusal;
 ghost use mathlib.Core.Path.{_≡_};
 ghost use mathlib.Core.Bool.{true};
+ghost use lib.ListN.{length};
 ghost use Rattle.report.specs.Report.{StaysFailed};
 
 // Whether every part so far was written whole.
@@ -18,7 +19,8 @@ impl Report {
     }
 
     pub fn text(self, bytes: &[u8]) -> Self
-        ensures { λ r. ⌜ StaysFailed (self .ok) (r .ok) ⌝ }
+        ensures failed { λ r. ⌜ StaysFailed (self .ok) (r .ok) ⌝ }
+        ensures nothing { λ r. ⌜ (length (now (bytes .entry)) ≡ 0 → r .ok ≡ self .ok) ⌝ }
     {
         if self.ok {
             if whole_io::write_whole(STDOUT_FILENO, bytes) {

@@ -25,8 +25,8 @@ pub enum Reading {
     Failed,
 }
 
-// How a reading goes on after a call.
-pub enum Step {
+// How a reading or a writing goes on after a call.
+pub(crate) enum Step {
     Again { done: usize, interruptions: usize },
     Over(Reading),
 }

@@ -15,27 +15,27 @@ returns c =
 
 returns-2 : tie.Need-returns-2
 returns-2 c =
+    let a = c .before .before .before .before .before .before .before .args in
+    let h = c .before .before in
+    header-is (a .self) (now (a .manifest))
+    (h .before .before .total-length .ensures) (h .before .magic .ensures) (h .signature-length .ensures) (h .before .before .before .total .ensures)
+    (rw (eq-eqb _ _ (c .before .if1 .left), ne-eqb _ _ (c .if2 .taken)))
+
+returns-3 : tie.Need-returns-3
+returns-3 c =
     let a = c .before .before .before .before .before .before .before .before .args in
     let h = c .before .before .before in
     header-is (a .self) (now (a .manifest))
     (h .before .before .total-length .ensures) (h .before .magic .ensures) (h .signature-length .ensures) (h .before .before .before .total .ensures)
-    (rw (eq-eqb _ _ (c .before .before .if1 .left), ne-eqb _ _ (c .if2 .taken)))
-
-returns-3 : tie.Need-returns-3
-returns-3 c =
-    let a = c .before .before .before .before .before .before .before .before .before .args in
-    let h = c .before .before .before .before in
-    header-is (a .self) (now (a .manifest))
-    (h .before .before .total-length .ensures) (h .before .magic .ensures) (h .signature-length .ensures) (h .before .before .before .total .ensures)
-    (rw (eq-eqb _ _ (c .before .before .before .if1 .left), eq-eqb _ _ (c .before .if2 .left), eq-eqb _ _ (c .if3 .taken)))
+    (rw (eq-eqb _ _ (c .before .before .if1 .left), eq-eqb _ _ (c .before .if2 .left), eq-eqb _ _ (c .if3 .taken)))
 
 returns-4 : tie.Need-returns-4
 returns-4 c =
-    let a = c .before .before .before .before .before .before .before .before .before .args in
-    let h = c .before .before .before .before in
+    let a = c .before .before .before .before .before .before .before .before .args in
+    let h = c .before .before .before in
     header-is (a .self) (now (a .manifest))
     (h .before .before .total-length .ensures) (h .before .magic .ensures) (h .signature-length .ensures) (h .before .before .before .total .ensures)
-    (rw (eq-eqb _ _ (c .before .before .before .if1 .left), eq-eqb _ _ (c .before .if2 .left), ne-eqb _ _ (c .if3 .left)))
+    (rw (eq-eqb _ _ (c .before .before .if1 .left), eq-eqb _ _ (c .before .if2 .left), ne-eqb _ _ (c .if3 .left)))
 
 pub bad-header-spec : {M : Type 1} → statement M
 bad-header-spec =
