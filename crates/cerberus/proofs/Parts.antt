@@ -15,9 +15,9 @@ use Rattle.manifest.specs.declared.Slot.{Slot}
 use Rattle.manifest.specs.declared.Role.{Role}
 use Rattle.manifest.specs.declared.Role
 use Rattle.manifest.specs.Slot.{receivedOf}
-use Rattle.manifest.specs.Calls.{lentNumber, held, manifestPart}
+use Rattle.manifest.specs.Calls.{lentNumber, manifestPart}
 use Rattle.elements.specs.Parts.{hashWidth}
-use Rattle.elements.specs.SignedImage.{imageHeadLength, hashTypeOf, regionCountOf, hashOf, regionsOf, imageNumber, imageHash, imageRegions}
+use Rattle.elements.specs.SignedImage.{imageHeadLength, hashTypeOf, hashOf, regionsOf, imageNumber, imageHash, imageRegions}
 use Rattle.elements.specs.RootCas.{rootsHash, rootsHashNumber}
 use Rattle.elements.proofs.Images.{image-element}
 use Rattle.elements.proofs.ByNumber.{by-number}

@@ -1,5 +1,5 @@
 -- A call's answer by the tests that the code makes of it. A signed number is tested by its bits, `ofZ w z`, and read back as `toZ w (ofZ w z)`.
-use Prim.Native.Nat.{ℕ, zero, suc, _≤_, _<_, min}
+use Prim.Native.Nat.{ℕ, zero, suc, _≤_, min}
 use mathlib.Core.Path.{_≡_, refl, sym, ap, _∙_}
 use mathlib.Core.Bool.{Bool, true, false, true≢false}
 use native.Mathlib.Omega.{arith}

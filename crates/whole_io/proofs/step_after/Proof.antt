@@ -1,4 +1,4 @@
-use Prim.Native.Nat.{ℕ, _-_}
+use Prim.Native.Nat.{_-_}
 use mathlib.Core.Path.{_≡_, sym, ap, _∙_}
 use native.Mathlib.Omega.{arith}
 use borrow.Author.Needs.{needs}
@@ -6,7 +6,6 @@ use mir.Syntax.{w32, w64}
 use mir.ValLaws.{toZ-ofZ}
 use Rattle.whole_io.specs.declared.Moved.{Moved}
 use Rattle.whole_io.specs.declared.Moved
-use Rattle.whole_io.specs.declared.Step.{Step}
 use Rattle.whole_io.specs.Calls.{movedBy}
 use Rattle.whole_io.specs.Transfers.{stepAfter}
 use Rattle.whole_io.proofs.CallLaws.{bytes-most}
