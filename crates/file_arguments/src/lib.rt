@@ -3,13 +3,14 @@ use whole_io::Reading;
 ghost use mathlib.Core.Path.{_≡_};
 ghost use lib.ListN.{length};
 ghost use Rattle.whole_io.specs.Transfers.{bytesRead, AtMost};
+ghost use Rattle.file_arguments.specs.Opened.{NoneUnopened};
 
-// What failed is said before the file is closed, which may set errno anew.
-fn read_named(path: &[u8], text: &mut [u8]) -> Reading
+// Reads the file that open answered fd for. What failed is said before the file is closed, which may set errno anew.
+fn read_opened(fd: i32, path: &[u8], text: &mut [u8]) -> Reading
+    ensures unopened { λ r. ⌜ NoneUnopened fd (bytesRead r) ⌝ }
     ensures count { λ r. ⌜ AtMost (length (now (text .exit))) (bytesRead r) ⌝ }
     ensures length { λ _. ⌜ length (now (text .exit)) ≡ length (now (text .entry)) ⌝ }
 {
-    let fd = os::open_read(path);
     if fd < 0 {
         os::fail(path);
         return Reading::Failed;
@@ -34,5 +35,6 @@ pub fn read_argument(i: usize, label: &[u8], text: &mut [u8]) -> Reading
         os::fail(label);
         return Reading::Failed;
     }
-    read_named(&path[..n], text)
+    let name = &path[..n];
+    read_opened(os::open_read(name), name, text)
 }
