@@ -1,8 +1,8 @@
 // Bytes in lent slices. Each function is total: a byte past the end reads as 0, and a run of bytes that does not fit is not
 // put. Numbers of several bytes are little-endian.
 ghost use mathlib.Core.Path.{_≡_};
-ghost use lib.ListN.{length, getD};
-ghost use Rattle.octets.specs.Octets.{numberAt, bytesOf, pasted, padded, zeros, zeroedFrom, sameBytes, allZero, replacedBy};
+ghost use lib.ListN.{getD};
+ghost use Rattle.octets.specs.Octets.{numberAt, bytesOf, bytesAt, pasted, zeroedFrom, sameBytes, allZero, replacedBy};
 
 pub fn byte_at(b: &[u8], at: usize) -> u8
     ensures { λ r. ⌜ r ≡ getD (now (b .entry)) at 0 ⌝ }
@@ -70,6 +70,23 @@ pub fn put(dst: &mut [u8], at: usize, src: &[u8])
         dst[at + i] = src[i];
         i += 1;
     }
+}
+
+// The 32 bytes from index at on.
+pub fn bytes32_at(b: &[u8], at: usize) -> [u8; 32]
+    ensures { λ r. ⌜ r ≡ bytesAt 32 (now (b .entry)) at ⌝ }
+{
+    let mut bytes = [0u8; 32];
+    if b.len() <= at {
+        return bytes;
+    }
+    if b.len() - at < 32 {
+        put(&mut bytes, 0, &b[at..]);
+        return bytes;
+    }
+    let end = at + 32;
+    put(&mut bytes, 0, &b[at..end]);
+    bytes
 }
 
 // Every byte from index at on becomes 0.
