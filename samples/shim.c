@@ -1,4 +1,4 @@
-/* Preloaded into a program by samples/check: read and write as a bad disk, a signal, a slow line or a full disk would have them.
+/* Preloaded into a program by samples/check: read, write and close as a bad disk, a signal, a slow line or a full disk would have them.
  *
  * The reads on descriptors above 2 are counted, and the writes on descriptor 1, each from 1 on. Variables of the environment choose what happens to them;
  * CALLS is a list of numbers with commas between, or "all":
@@ -7,6 +7,7 @@
  *   READ_INTERRUPTED=CALLS  these reads are interrupted by a signal (EINTR)
  *   READ_MOST=N             no read gives more than N bytes
  *   WRITE_FAILS=CALLS, WRITE_INTERRUPTED=CALLS, WRITE_MOST=N   the same of writes, which fail with ENOSPC
+ *   CLOSE_FAILS=1           closing descriptor 1 fails with EDQUOT
  */
 #define _GNU_SOURCE
 #include <errno.h>
@@ -76,4 +77,14 @@ ssize_t write(int fd, const void *buffer, size_t count)
         return -1;
     }
     return syscall(SYS_write, fd, buffer, limited("WRITE_MOST", count));
+}
+
+int close(int fd)
+{
+    int status = (int)syscall(SYS_close, fd);
+    if (fd == 1 && getenv("CLOSE_FAILS") != NULL) {
+        errno = EDQUOT;
+        return -1;
+    }
+    return status;
 }

@@ -51,5 +51,5 @@ fn main() {
     }
     let mut left = [0u8; READ_LEN];
     let mut right = [0u8; READ_LEN];
-    compare_named(Report::new(), &mut left, &mut right);
+    compare_named(Report::new(), &mut left, &mut right).end();
 }

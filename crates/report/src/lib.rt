@@ -1,8 +1,8 @@
-// A program's report on standard output, written part by part. The first part that can't be written gets a line on standard error, and nothing is written after it.
+// A program's report on standard output, written part by part. The first part that can't be written gets a line on standard error, and no part is written after it.
 use libc::STDOUT_FILENO;
 use refusal::Refusal;
 ghost use mathlib.Core.Path.{_≡_};
-ghost use mathlib.Core.Bool.{true};
+ghost use mathlib.Core.Bool.{true, _&&_};
 ghost use lib.ListN.{length};
 ghost use Rattle.report.specs.Report.{StaysFailed};
 
@@ -22,12 +22,30 @@ impl Report {
         ensures failed { λ r. ⌜ StaysFailed (self .ok) (r .ok) ⌝ }
         ensures nothing { λ r. ⌜ (length (now (bytes .entry)) ≡ 0 → r .ok ≡ self .ok) ⌝ }
     {
-        if self.ok {
-            if whole_io::write_whole(STDOUT_FILENO, bytes) {
-                return self;
-            }
-            os::fail(b"standard output");
+        if !self.ok {
+            return self;
         }
+        self.outcome(whole_io::write_whole(STDOUT_FILENO, bytes))
+    }
+
+    // The report's end. Standard output is closed: some file systems tell only then that a write has failed.
+    pub fn end(self) -> Self
+        ensures { λ r. ⌜ StaysFailed (self .ok) (r .ok) ⌝ }
+    {
+        if !self.ok {
+            return self;
+        }
+        self.outcome(libc::close(STDOUT_FILENO) == 0)
+    }
+
+    // What a call on standard output leaves of the report.
+    fn outcome(self, done: bool) -> Self
+        ensures { λ r. ⌜ r .ok ≡ (done && self .ok) ⌝ }
+    {
+        if done {
+            return self;
+        }
+        os::fail(b"standard output");
         Report { ok: false }
     }
 

@@ -18,5 +18,5 @@ pub(crate) fn show(report: Report, example: &[u8], as_written: bool) -> Report {
 fn main() {
     let r1 = elements_examples::run(Report::new());
     let r2 = log_examples::run(r1);
-    slot_examples::run(r2);
+    slot_examples::run(r2).end();
 }

@@ -68,12 +68,17 @@ impl Tally {
         }
     }
 
-    // The last line.
+    // The last line, and the report's end.
     pub fn summary(self) -> Self
         ensures { λ r. ⌜ (r .run ≡ self .run) × (r .differ ≡ self .differ) ⌝ }
     {
         let counted = self.labelled(b"", self.run)
             .labelled(b" vectors, ", self.differ);
-        counted.text(b" differ\n")
+        let report = counted.report;
+        Tally {
+            run: counted.run,
+            differ: counted.differ,
+            report: report.text(b" differ\n").end(),
+        }
     }
 }

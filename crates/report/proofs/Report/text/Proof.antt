@@ -1,18 +1,16 @@
-use mathlib.Core.Path.{refl, sym, _∙_}
-use mathlib.Core.Bool.{true≢false}
+use mathlib.Core.Path.{sym, ap, _∙_}
+use mathlib.Core.Bool.{Bool, _&&_, true≢false}
 use borrow.Author.Needs.{needs}
+use borrow.Author.Tests.{not-false}
 use Rattle.report.proofs.Report.text.Statement.{statement}
 use Rattle.report.proofs.Report.text.Tie as tie
 
--- it had not failed before, and there was something to write
+-- it had not failed before; writing nothing doesn't fail
 returns-2 : tie.Need-returns-2
 returns-2 c = (
-  λ failed. absurd (true≢false (sym (c .before .before .before .before .if1 .taken) ∙ failed)),
-  λ none. absurd (true≢false (sym (c .before .before .before .write-whole .ensures none) ∙ c .before .before .if2 .left)),
+  λ failed. absurd (true≢false (sym (not-false _ (c .before .before .if1 .left)) ∙ failed)),
+  λ none. c .outcome .ensures ∙ ap (λ (d : Bool). d && c .before .before .before .before .before .args .self .ok) (c .before .write-whole .ensures none),
 )
 
-returns-3 : tie.Need-returns-3
-returns-3 c = (λ failed. refl, λ none. sym (c .if1 .left))
-
 pub text-spec : {M : Type 1} → statement M
-text-spec = tie.close (tie.spec (λ c κs. search needs) (λ c. search needs) (λ c. search needs) (λ c κs. search needs) returns-2 returns-3)
+text-spec = tie.close (tie.spec (λ c. search needs) (λ c κs. search needs) (λ c κs. search needs) returns-2)
