@@ -63,14 +63,13 @@ pub extern "C" fn cerberus_log_register(
     let log = Log { count };
     let read = log.register(Pmr(pmr), buffer);
     let verdict = read.verdict;
-    match verdict {
-        Verdict::Refused(why) => why.number(),
-        Verdict::Accepted => {
-            let bytes = read.bytes;
-            *value = bytes;
-            0
-        }
+    let number = verdict.number();
+    if 0 < number {
+        return number;
     }
+    let bytes = read.bytes;
+    *value = bytes;
+    number
 }
 
 // The length is worked out from the count: asking read_out too would check the log twice.

@@ -9,9 +9,6 @@ ghost use Rattle.octets.specs.Octets.{pasted};
 ghost use Rattle.meaning.specs.Meaning.{meaningOf};
 ghost use Rattle.cerberus.specs.Calls.{refusalOf, meaningNumber};
 
-// The longest meaning.
-const LONGEST: usize = 80;
-
 // The refusal with this number; the last, where there is none.
 fn refusal_of(number: u8) -> Refusal
     ensures { λ r. ⌜ r ≡ refusalOf number ⌝ }
@@ -35,7 +32,7 @@ fn refusal_of(number: u8) -> Refusal
 fn meaning_verdict(number: u8, text: &[u8]) -> Verdict
     ensures { λ r. ⌜ numberOf r ≡ meaningNumber number (now (text .entry)) ⌝ }
 {
-    if text.len() < LONGEST {
+    if text.len() < meaning::LONGEST {
         return Verdict::Refused(Refusal::WrongBuffer);
     }
     if number < 1 {

@@ -1,5 +1,5 @@
 -- Document 01: "Readers show hash and regions as parts of the lent element". One region or one hash by its number, from 0: what stands there in an
--- element that is sound, and nothing past the last or where the element is malformed. A hash's companion tells the two apart.
+-- element that is sound, and nothing past the last or where the element is malformed. A hash's companion gives the 12.
 use Prim.Native.Nat.{ℕ, _+_, _*_, _<_}
 use mathlib.Core.Path.{_≡_}
 use mathlib.Core.List.{List, []}

@@ -5,6 +5,9 @@ ghost use lib.ListN.{length};
 ghost use Rattle.octets.specs.Octets.{pasted};
 ghost use Rattle.meaning.specs.Meaning.{meaningOf};
 
+// How many bytes the longest meaning has.
+pub const LONGEST: usize = 80;
+
 // Puts the meaning, in ASCII, to the front of text, where it fits, and answers its length.
 pub fn put_meaning(why: Refusal, text: &mut [u8]) -> usize
     ensures length { λ r. ⌜ r ≡ length (meaningOf why) ⌝ }

@@ -91,13 +91,14 @@ fn not_offered(message: &[u8]) -> bool
     ensures { λ r. ⌜ r ≡ notOffered (now (message .entry)) ⌝ }
 {
     let flags = octets::byte_at(message, 3);
+    let command = octets::byte_at(message, 4);
     if request_type(flags) {
         return true;
     }
     if crypt(flags) {
         return true;
     }
-    Command::from_byte(octets::byte_at(message, 4)).is_other()
+    Command::from_byte(command).is_other()
 }
 
 // The refusal of a message by its header alone.

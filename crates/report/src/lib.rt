@@ -100,7 +100,7 @@ impl Report {
     pub fn refusal(self, why: Refusal) -> Self
         ensures { λ r. ⌜ StaysFailed (self .ok) (r .ok) ⌝ }
     {
-        let mut words = [0u8; 80];
+        let mut words = [0u8; meaning::LONGEST];
         let n = meaning::put_meaning(why, &mut words);
         let report = self.decimal(why.number() as u64).text(b"\nmeaning: ");
         report.front(&words, n).text(b"\n")

@@ -3,6 +3,8 @@ pub mod counting;
 
 use report::Report;
 ghost use mathlib.Core.Path.{_≡_};
+ghost use mathlib.Core.Bool.{true};
+ghost use Rattle.report.specs.Report.{StaysFailed};
 ghost use Rattle.vector_report.specs.Counts.{oneMore, differing};
 
 // How many vectors were run, how many of them differ, and the report that says so.
@@ -14,7 +16,8 @@ pub struct Tally {
 
 impl Tally {
     pub fn new() -> Self
-        ensures { λ r. ⌜ (r .run ≡ 0) × (r .differ ≡ 0) ⌝ }
+        ensures counts { λ r. ⌜ (r .run ≡ 0) × (r .differ ≡ 0) ⌝ }
+        ensures report { λ r. ⌜ r .report .ok ≡ true ⌝ }
     {
         Tally {
             run: 0,
@@ -25,7 +28,8 @@ impl Tally {
 
     // A part of what a vector's line begins with.
     pub fn text(self, text: &[u8]) -> Self
-        ensures { λ r. ⌜ (r .run ≡ self .run) × (r .differ ≡ self .differ) ⌝ }
+        ensures counts { λ r. ⌜ (r .run ≡ self .run) × (r .differ ≡ self .differ) ⌝ }
+        ensures failed { λ r. ⌜ StaysFailed (self .report .ok) (r .report .ok) ⌝ }
     {
         let report = self.report;
         Tally {
@@ -36,7 +40,8 @@ impl Tally {
     }
 
     pub fn labelled(self, label: &[u8], n: u64) -> Self
-        ensures { λ r. ⌜ (r .run ≡ self .run) × (r .differ ≡ self .differ) ⌝ }
+        ensures counts { λ r. ⌜ (r .run ≡ self .run) × (r .differ ≡ self .differ) ⌝ }
+        ensures failed { λ r. ⌜ StaysFailed (self .report .ok) (r .report .ok) ⌝ }
     {
         let report = self.report;
         Tally {
@@ -50,6 +55,7 @@ impl Tally {
     pub fn compare(self, computed: &[u8], expected: &[u8]) -> Self
         ensures run { λ r. ⌜ r .run ≡ oneMore (self .run) ⌝ }
         ensures differ { λ r. ⌜ r .differ ≡ differing (now (computed .entry)) (now (expected .entry)) (self .differ) ⌝ }
+        ensures failed { λ r. ⌜ StaysFailed (self .report .ok) (r .report .ok) ⌝ }
     {
         let report = self.report;
         let run = std::num::wrapping_add_u64(self.run, 1);
@@ -70,7 +76,8 @@ impl Tally {
 
     // The last line, and the report's end.
     pub fn summary(self) -> Self
-        ensures { λ r. ⌜ (r .run ≡ self .run) × (r .differ ≡ self .differ) ⌝ }
+        ensures counts { λ r. ⌜ (r .run ≡ self .run) × (r .differ ≡ self .differ) ⌝ }
+        ensures failed { λ r. ⌜ StaysFailed (self .report .ok) (r .report .ok) ⌝ }
     {
         let counted = self.labelled(b"", self.run)
             .labelled(b" vectors, ", self.differ);

@@ -1,6 +1,6 @@
 -- Readings made of several calls: how one goes on after each call, and what it answers.
--- Which bytes a file gave, and that the calls were made, no contract can say here: the contract of libc's read says nothing of the bytes that it puts,
--- nor of a file. What each call's answer leads to is fixed by `stepAfter`.
+-- Which bytes a file gave, and that the calls were made and what they answered, no contract can say here: the contract of libc's read says nothing of the
+-- bytes that it puts, nor of a file. `stepAfter` fixes what a call's answer leads to; that a reading ends as its last step says is tested.
 use Prim.Native.Nat.{ℕ, zero, suc, _+_, _≤_}
 use mathlib.Core.Option.{Option, none, some}
 use Rattle.whole_io.specs.declared.Moved.{Moved}

@@ -8,7 +8,7 @@ returns : tie.Need-returns
 returns c =
     let compared = c .before .before .before in (
       compared .before .wrapping-add-u64 .ensures,
-      agrees _ _ _ _ (compared .same .ensures) (c .before .before .if1 .taken),
+      (agrees _ _ _ _ (compared .same .ensures) (c .before .before .if1 .taken), c .text .ensures .0),
     )
 
 returns-2 : tie.Need-returns-2
@@ -16,7 +16,10 @@ returns-2 c =
     let counted = c .before .before .before .before .before in
     let tested = counted .before in (
       tested .before .before .wrapping-add-u64 .ensures,
-      counted .wrapping-add-u642 .ensures ∙ differs _ _ _ _ (tested .before .same .ensures) (tested .if1 .left),
+      (
+        counted .wrapping-add-u642 .ensures ∙ differs _ _ _ _ (tested .before .same .ensures) (tested .if1 .left),
+        λ failed. c .text3 .ensures .0 (c .before .before .bytes .ensures (c .before .before .before .text2 .ensures .0 failed)),
+      ),
     )
 
 pub compare-spec : {M : Type 1} → statement M
