@@ -105,12 +105,12 @@ uint8_t cerberus_certificate_slots(uint8_t mask, uint8_t *count, uint8_t *lowest
 
 /* ---- the measurement log: *count is its state, the number of entries */
 
-#define CERBERUS_LOG_ENTRY_LEN 87
+#define CERBERUS_LOG_ENTRY_LEN 89
 #define CERBERUS_LOG_CAPACITY 64
-#define CERBERUS_LOG_BUFFER_LEN 5568
+#define CERBERUS_LOG_BUFFER_LEN 5696
 
 /* An empty log: buffer becomes zero, *count 0.
- * Refuses: 3 buffer has not exactly 5,568 bytes. */
+ * Refuses: 3 buffer has not exactly 5,696 bytes. */
 uint8_t cerberus_log_reset(size_t *count, uint8_t *buffer, size_t buffer_len);
 
 /* One more entry; *count rises by one.
@@ -133,7 +133,7 @@ uint8_t cerberus_log_read_out_verdict(size_t count, const uint8_t *buffer, size_
 
 /* A new run from a recorded text: buffer becomes the text and then zeros,
  * whatever it held, and *count the text's entries; *count is not read.
- * Refuses: 3 buffer length; 2 text_len not a multiple of 87 or above 5,568;
+ * Refuses: 3 buffer length; 2 text_len not a multiple of 89 or above 5,696;
  * 4 no run of records from a reset writes the text. */
 uint8_t cerberus_log_replay(size_t *count, const uint8_t *text, size_t text_len, uint8_t *buffer, size_t buffer_len);
 

@@ -1,5 +1,5 @@
-//! Document 01's examples at the edges, published vectors and what document 02, Item 14, says of slots and
-//! pairing, with the papers' own bytes: neither the library nor the model decides here what is right.
+//! Document 01's examples at the edges, published vectors, and what document 02 says of the legacy form of a log (Item 4)
+//! and of slots and pairing (Item 14), with the papers' own bytes: neither the library nor the model decides here what is right.
 
 use crate::calls::{Call, Case, Outcome, call_model};
 use crate::ffi::slot_bytes;
@@ -63,6 +63,8 @@ pub fn run(harness: &mut Harness) {
     elements(harness);
     first_record(harness);
     first_record_compared(harness);
+    legacy_texts(harness);
+    legacy_buffer(harness);
     limits(harness);
     version_id(harness);
 }
@@ -174,25 +176,35 @@ fn signed_image(harness: &mut Harness, hash_type: u8, count: u8, len: usize, ans
     expect(harness, case, 0, vec![element, vec![hash_type], vec![count], vec![1], hash_len]);
 }
 
-/// First record, PMR0, event type 10, digest all zero.
-fn first_entry() -> Vec<u8> {
-    let mut entry = bytes("0b 57 00 00 00 00 00 0a 00 00 00 00 00 00 00 01 00 00 0b");
+/// First record, PMR0, event type 10, digest all zero, with this before the digest.
+fn first_entry_from(head: &str) -> Vec<u8> {
+    let mut entry = bytes(head);
     entry.extend([0; 32]);
     entry.extend(bytes("20 00 00 00"));
     entry.extend(bytes(OF_64_ZEROS));
     entry
 }
 
+/// By 000's tables: document 02, Item 4, has the example follow them.
+fn first_entry() -> Vec<u8> {
+    first_entry_from("cb 59 00 00 00 00 00 0a 00 00 00 00 00 00 00 01 00 00 00 0b 00")
+}
+
+/// As document 01 has it, by 003.
+fn legacy_first_entry() -> Vec<u8> {
+    first_entry_from("0b 57 00 00 00 00 00 0a 00 00 00 00 00 00 00 01 00 00 0b")
+}
+
 fn first_record(harness: &mut Harness) {
     let mut entry = first_entry();
-    entry.resize(5568, 0);
+    entry.resize(5696, 0);
     let count = |count: u64| count.to_ne_bytes().to_vec();
-    let case = Case::new(Call::LogRecord, &[0, 10], vec![count(0), vec![0; 32], vec![0; 5568]]);
+    let case = Case::new(Call::LogRecord, &[0, 10], vec![count(0), vec![0; 32], vec![0; 5696]]);
     expect(harness, case, 0, vec![count(1), vec![0; 32], entry]);
     // A fresh register reads as zeros.
     for pmr in 0..5 {
-        let case = Case::new(Call::LogRegister, &[0, pmr], vec![vec![0; 5568], vec![9; 32]]);
-        expect(harness, case, 0, vec![vec![0; 5568], vec![0; 32]]);
+        let case = Case::new(Call::LogRegister, &[0, pmr], vec![vec![0; 5696], vec![9; 32]]);
+        expect(harness, case, 0, vec![vec![0; 5696], vec![0; 32]]);
     }
 }
 
@@ -209,6 +221,36 @@ fn first_record_compared(harness: &mut Harness) {
         let case = Case::new(Call::LogCompare, &[], vec![left.clone(), right.clone(), vec![9; 25]]);
         expect(harness, case, 0, vec![left.clone(), right, comparison]);
         expect_unchanged(harness, Case::new(Call::LogTextVerdict, &[], vec![left]), 0);
+    }
+}
+
+/// Item 4: a text of one to 64 entries in the 87-byte form is 2.
+fn legacy_texts(harness: &mut Harness) {
+    for entries in 1..=64 {
+        let text = legacy_first_entry().repeat(entries);
+        let lent = vec![vec![9; 8], text.clone(), vec![7; 5696]];
+        expect_unchanged(harness, Case::new(Call::LogReplay, &[], lent), 2);
+        expect_unchanged(harness, Case::new(Call::LogTextVerdict, &[], vec![text.clone()]), 2);
+        for (left, right) in [(text.clone(), first_entry()), (first_entry(), text)] {
+            expect_unchanged(harness, Case::new(Call::LogCompare, &[], vec![left, right, vec![9; 25]]), 2);
+        }
+    }
+}
+
+/// Item 4: a buffer of the old length is 3, whatever else is right or wrong.
+fn legacy_buffer(harness: &mut Harness) {
+    let buffer = vec![0; 5568];
+    let count = |count: u64| count.to_ne_bytes().to_vec();
+    for text in [Vec::new(), first_entry(), legacy_first_entry()] {
+        expect_unchanged(harness, Case::new(Call::LogReplay, &[], vec![count(9), text, buffer.clone()]), 3);
+    }
+    for (entries, pmr) in [(0, 0), (65, 5)] {
+        let record = vec![count(entries), vec![0; 32], buffer.clone()];
+        expect_unchanged(harness, Case::new(Call::LogReset, &[], vec![count(entries), buffer.clone()]), 3);
+        expect_unchanged(harness, Case::new(Call::LogRecord, &[pmr, 10], record), 3);
+        expect_unchanged(harness, Case::new(Call::LogRegister, &[entries, pmr], vec![buffer.clone(), vec![9; 32]]), 3);
+        expect_unchanged(harness, Case::new(Call::LogReadOut, &[entries], vec![buffer.clone(), count(9)]), 3);
+        expect_unchanged(harness, Case::new(Call::LogReadOutVerdict, &[entries], vec![buffer.clone()]), 3);
     }
 }
 
@@ -230,7 +272,7 @@ fn limits(harness: &mut Harness) {
 
 /// The 64th record passes, the 65th is 7.
 fn sixty_fourth_record(harness: &mut Harness) {
-    let (mut count, mut buffer) = (0u64.to_ne_bytes().to_vec(), vec![0; 5568]);
+    let (mut count, mut buffer) = (0u64.to_ne_bytes().to_vec(), vec![0; 5696]);
     for number in 1..=65 {
         let lent = vec![count.clone(), vec![number; 32], buffer.clone()];
         let case = Case::new(Call::LogRecord, &[u64::from(number % 5), 10], lent);

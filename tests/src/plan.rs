@@ -82,6 +82,7 @@ fn systematic_jobs(plan: &mut Plan) {
     plan.add("log-pmr-bytes", &OVER_LOG, systematic::log::pmr_bytes);
     plan.add("log-buffer-lengths", &OVER_LOG, systematic::log::buffer_lengths);
     plan.add("log-text-lengths", &OVER_LOG, systematic::log::text_lengths);
+    plan.add("log-legacy-texts", &OVER_LOG, systematic::log::legacy_texts);
     plan.add("log-refusals-at-once", &OVER_LOG, systematic::log::refusals_at_once);
     comparison_jobs(plan);
     plan.add("slot-states", &OVER_SLOT, systematic::slot::states);

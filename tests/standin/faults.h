@@ -1,13 +1,22 @@
 /* The faults that can be switched on in the stand-in, one at a time:
  * F(name, what is wrong, the calls whose cases must show it). */
+#define OF_ENTRIES \
+    "cerberus_log_record cerberus_log_register cerberus_log_read_out cerberus_log_read_out_verdict cerberus_log_replay " \
+    "cerberus_log_text_verdict cerberus_log_compare"
 #define FAULTS(F) \
     F(EQUAL_ID, "an equal version id is taken as forward", "cerberus_slot_activate cerberus_command") \
-    F(DIGEST_FIRST, "the digest is hashed before the register", \
-      "cerberus_log_record cerberus_log_register cerberus_log_read_out cerberus_log_read_out_verdict cerberus_log_replay " \
-      "cerberus_log_text_verdict cerberus_log_compare") \
-    F(INDEX_OVER_LOG, "the measurement index counts over the whole log", \
-      "cerberus_log_record cerberus_log_register cerberus_log_read_out cerberus_log_read_out_verdict cerberus_log_replay " \
-      "cerberus_log_text_verdict cerberus_log_compare") \
+    F(DIGEST_FIRST, "the digest is hashed before the register", OF_ENTRIES) \
+    F(INDEX_OVER_LOG, "the measurement index counts over the whole log", OF_ENTRIES) \
+    F(MARKER_NIBBLES, "the start marker's halves are exchanged", OF_ENTRIES) \
+    F(MARKER_LEGACY, "an entry begins with its format alone", OF_ENTRIES) \
+    F(ENTRY_LENGTH_87, "an entry says that it has 87 bytes", OF_ENTRIES) \
+    F(TWO_RESERVED, "the algorithm id stands behind two reserved bytes", OF_ENTRIES) \
+    F(ALGORITHM_HIGH_FIRST, "the algorithm id's high byte stands first", OF_ENTRIES) \
+    F(LEGACY_BUFFER, "a buffer for 64 entries of 87 bytes isn't 3", \
+      "cerberus_log_reset cerberus_log_record cerberus_log_register cerberus_log_read_out cerberus_log_read_out_verdict " \
+      "cerberus_log_replay") \
+    F(LEGACY_TEXT, "a text of 87 bytes an entry is 4", \
+      "cerberus_log_replay cerberus_log_text_verdict cerberus_log_compare") \
     F(RECEIVED_RAISED, "a refused update raises received", "cerberus_slot_update cerberus_command") \
     F(END_EXCLUSIVE, "a region's end is one past its last byte", \
       "cerberus_region_read cerberus_region_write cerberus_rw_region_read cerberus_rw_region_write " \

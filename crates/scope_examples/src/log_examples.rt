@@ -5,9 +5,10 @@ use attestation_log::Pmr;
 use attestation_log::Start;
 use report::Report;
 
-// Document 01's first record: PMR0, event type 10, digest all zero. The measurement, SHA-256 of 64 zero bytes, is Python's hashlib's.
-const FIRST: [u8; 87] =
-    *b"\x0b\x57\x00\x00\x00\x00\x00\x0a\x00\x00\x00\x00\x00\x00\x00\x01\x00\x00\x0b\
+// Document 01's first record, in the layout of document 02, Item 4: PMR0, event type 10, digest all zero. The measurement, SHA-256 of 64 zero bytes, is Python's
+// hashlib's.
+const FIRST: [u8; 89] =
+    *b"\xcb\x59\x00\x00\x00\x00\x00\x0a\x00\x00\x00\x00\x00\x00\x00\x01\x00\x00\x00\x0b\x00\
 \x00\x00\x00\x00\x00\x00\x00\x00\x00\x00\x00\x00\x00\x00\x00\x00\x00\x00\x00\x00\x00\x00\x00\x00\x00\x00\x00\x00\x00\x00\x00\x00\
 \x20\x00\x00\x00\
 \xf5\xa5\xfd\x42\xd1\x6a\x20\x30\x27\x98\xef\x6e\xd3\x09\x97\x9b\x43\x00\x3d\x23\x20\xd9\xf0\xe8\xea\x98\x31\xa9\x27\x59\xfb\x4b";
@@ -53,7 +54,7 @@ fn first_record(report: Report, log: Log, buffer: &mut [u8]) -> Report {
     let text = next.read_out(buffer);
     show(
         report,
-        b"the first record's 87 bytes",
+        b"the first record's 89 bytes",
         octets::same(text, &FIRST),
     )
 }
@@ -87,7 +88,7 @@ pub(crate) fn run(report: Report) -> Report {
     let mut buffer = [0xffu8; Log::BUFFER_LEN];
     let start = Log::reset(&mut buffer);
     match start {
-        Start::Refused(_) => show(report, b"a reset of 5,568 bytes is accepted", false),
+        Start::Refused(_) => show(report, b"a reset of 5,696 bytes is accepted", false),
         Start::Started(log) => on_fresh_log(report, log, &mut buffer),
     }
 }

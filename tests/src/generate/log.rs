@@ -1,4 +1,4 @@
-//! Logs: sound ones, damaged ones, and ones that a writer with one wrong rule would leave.
+//! Logs: sound ones, damaged ones, and ones that a writer with one wrong rule, or of the legacy form, would leave.
 
 use super::{absurd_len, damage, size, word, wrong_len};
 use crate::calls::{Call, Case};
@@ -142,18 +142,18 @@ fn damaged_behind(book: &Book, rng: &mut Rng) -> Vec<u8> {
     buffer
 }
 
-/// The inverse of 87 modulo 2^64: 87 times a multiple of it wraps to a small number.
+/// The inverse of an entry's length modulo 2^64: the length times a multiple of it wraps to a small number.
 const INVERSE: u64 = {
     let mut inverse: u64 = 1;
     let mut step = 0;
     while step < 6 {
-        inverse = inverse.wrapping_mul(2u64.wrapping_sub(87u64.wrapping_mul(inverse)));
+        inverse = inverse.wrapping_mul(2u64.wrapping_sub((ENTRY_LEN as u64).wrapping_mul(inverse)));
         step += 1;
     }
     inverse
 };
 
-/// A count that is not the log's own: one off, at the limit, or where 87 times it overflows.
+/// A count that is not the log's own: one off, at the limit, or where an entry's length times it overflows.
 pub fn other_count(count: u64, rng: &mut Rng) -> u64 {
     let wrapping = INVERSE.wrapping_mul(rng.below(BUFFER_LEN + 1) as u64);
     let near = [count.wrapping_sub(1), count + 1, 63, 64, 65, 66];
@@ -164,8 +164,8 @@ pub fn other_count(count: u64, rng: &mut Rng) -> u64 {
         (1 << 63) + count,
         u64::MAX,
         u64::MAX - 63,
-        u64::MAX / 87,
-        u64::MAX / 87 + 1,
+        u64::MAX / ENTRY_LEN as u64,
+        u64::MAX / ENTRY_LEN as u64 + 1,
         wrapping,
     ];
     if rng.chance(60) { rng.pick(&near) } else { rng.pick(&far) }
@@ -217,8 +217,10 @@ pub fn broken_text(book: &Book, rng: &mut Rng) -> Vec<u8> {
 /// A sound log's text, longer or shorter than it was.
 fn of_other_length(book: &Book, rng: &mut Rng) -> Vec<u8> {
     let len = book.text().len();
-    let near = [len.saturating_sub(1), len + 1, len + 86, len + 87, len.saturating_sub(87)];
-    let far = [1, 86, 88, BUFFER_LEN - 1, BUFFER_LEN, BUFFER_LEN + 1, BUFFER_LEN + 87, 2 * BUFFER_LEN, 6000];
+    let near = [len.saturating_sub(1), len + 1, len + ENTRY_LEN - 1, len + ENTRY_LEN, len.saturating_sub(ENTRY_LEN)];
+    let legacy = LEGACY_ENTRY_LEN * (1 + rng.below(CAPACITY));
+    let past = [BUFFER_LEN + 1, BUFFER_LEN + ENTRY_LEN, 2 * BUFFER_LEN, 6000];
+    let far = [1, ENTRY_LEN - 1, ENTRY_LEN + 1, BUFFER_LEN - 1, BUFFER_LEN, rng.pick(&past), legacy];
     let len = if rng.chance(50) { rng.pick(&near) } else { rng.pick(&far) };
     let mut text = book.text().to_vec();
     text.resize(len, 0);
@@ -236,10 +238,11 @@ struct Rules {
     first_id: u32,
     first_index: u8,
     first_register: u8,
-    format: u8,
+    marker: u8,
     entry_len: u16,
     digest_count: u8,
-    algorithm: u8,
+    /// The bytes between the number of digests and the digest.
+    reserved_and_algorithm: &'static [u8],
     size: u32,
     pmr_shift: u8,
 }
@@ -253,16 +256,28 @@ const RIGHT: Rules = Rules {
     first_id: 0,
     first_index: 0,
     first_register: 0,
-    format: 0x0b,
-    entry_len: 87,
+    marker: 0xcb,
+    entry_len: ENTRY_LEN as u16,
     digest_count: 1,
-    algorithm: 0x0b,
+    reserved_and_algorithm: &[0, 0, 0, 0x0b, 0],
     size: 32,
     pmr_shift: 0,
 };
 
-/// The right writer, and writers with one wrong rule each.
-const WRITERS: [Rules; 15] = [
+/// An entry in the form of document 003, which Item 4 of document 02 replaced.
+pub const LEGACY_ENTRY_LEN: usize = 87;
+
+/// The writer of that form.
+const LEGACY: Rules =
+    Rules { marker: 0x0b, entry_len: LEGACY_ENTRY_LEN as u16, reserved_and_algorithm: &[0, 0, 0x0b], ..RIGHT };
+
+/// A log of so many entries in that form.
+pub fn legacy_text(entries: usize, rng: &mut Rng) -> Vec<u8> {
+    written_by(&LEGACY, book(entries, rng).records())
+}
+
+/// The right writer, and writers with one wrong rule each or of the legacy form.
+const WRITERS: [Rules; 20] = [
     RIGHT,
     Rules { digest_first: true, ..RIGHT },
     Rules { index_over_whole_log: true, ..RIGHT },
@@ -272,10 +287,15 @@ const WRITERS: [Rules; 15] = [
     Rules { first_id: 1, ..RIGHT },
     Rules { first_index: 1, ..RIGHT },
     Rules { first_register: 0xff, ..RIGHT },
-    Rules { format: 0xcb, ..RIGHT },
-    Rules { entry_len: 89, ..RIGHT },
+    Rules { marker: 0x0b, ..RIGHT },
+    Rules { marker: 0xbc, ..RIGHT },
+    Rules { entry_len: LEGACY_ENTRY_LEN as u16, ..RIGHT },
     Rules { digest_count: 2, ..RIGHT },
-    Rules { algorithm: 0x0c, ..RIGHT },
+    Rules { reserved_and_algorithm: &[0, 0, 0, 0x0c, 0], ..RIGHT },
+    Rules { reserved_and_algorithm: &[0, 0, 0, 0, 0x0b], ..RIGHT },
+    Rules { reserved_and_algorithm: &[0, 0, 0x0b, 0, 0], ..RIGHT },
+    Rules { reserved_and_algorithm: &[0, 0, 0, 0x0b], ..RIGHT },
+    LEGACY,
     Rules { size: 64, ..RIGHT },
     // PMRs 4 to 8: some are out of range though all else is by the rules.
     Rules { pmr_shift: 4, ..RIGHT },
@@ -295,11 +315,12 @@ fn written_by(rules: &Rules, records: &[Record]) -> Vec<u8> {
         let measurement = if rules.measurement_is_old_register { old } else { registers[register] };
         let index = if rules.index_over_whole_log { id as u8 } else { indices[usize::from(pmr)] };
         indices[usize::from(pmr)] += 1;
-        text.push(rules.format);
+        text.push(rules.marker);
         text.extend(rules.entry_len.to_le_bytes());
         text.extend(number(rules, id as u32 + rules.first_id));
         text.extend(record.event_type.to_le_bytes());
-        text.extend([index, pmr, 0, 0, rules.digest_count, 0, 0, rules.algorithm]);
+        text.extend([index, pmr, 0, 0, rules.digest_count]);
+        text.extend(rules.reserved_and_algorithm);
         text.extend(record.digest);
         text.extend(number(rules, rules.size));
         text.extend(measurement);
@@ -311,7 +332,7 @@ fn number(rules: &Rules, number: u32) -> [u8; 4] {
     if rules.high_byte_first { number.to_be_bytes() } else { number.to_le_bytes() }
 }
 
-/// A text of whole entries that no run of records writes, as a rule.
+/// A text that no run of records writes, as a rule; most of these are of whole entries.
 fn unsound_text(book: &Book, rng: &mut Rng) -> Vec<u8> {
     if rng.chance(50) {
         let rules = WRITERS[rng.below(WRITERS.len())];

@@ -11,7 +11,9 @@ pub mod sha256;
 pub mod slot;
 
 use crate::calls::{Call, Case};
+use crate::model::log::ENTRY_LEN;
 use crate::rng::Rng;
+use log::LEGACY_ENTRY_LEN;
 
 /// A random case of a call.
 pub struct Generator {
@@ -82,13 +84,16 @@ pub fn size(rng: &mut Rng) -> Vec<u8> {
 
 /// A length near or far from the right one, and seldom the right one itself.
 pub fn wrong_len(right: usize, rng: &mut Rng) -> usize {
-    let near = [0, 1, right.saturating_sub(1), right + 1, right.saturating_sub(87), right + 87, right / 2, 2 * right];
+    let legacy = right / ENTRY_LEN * LEGACY_ENTRY_LEN;
+    let entries = [right.saturating_sub(ENTRY_LEN), right + ENTRY_LEN, legacy];
+    let near = [0, 1, right.saturating_sub(1), right + 1, right / 2, 2 * right, rng.pick(&entries), rng.pick(&entries)];
     if rng.chance(80) { rng.pick(&near) } else { rng.below(2 * right + 2) }
 }
 
 /// A length that no memory has.
 pub fn absurd_len(right: usize, rng: &mut Rng) -> usize {
-    let absurd = [usize::MAX, 1 << 63, (1 << 32) + right, (1 << 63) + right, usize::MAX - 86, usize::MAX / 87 * 87];
+    let entries = [usize::MAX - (ENTRY_LEN - 1), usize::MAX / ENTRY_LEN * ENTRY_LEN];
+    let absurd = [usize::MAX, 1 << 63, (1 << 32) + right, (1 << 63) + right, entries[0], entries[1]];
     rng.pick(&absurd)
 }
 

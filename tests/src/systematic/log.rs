@@ -2,7 +2,7 @@
 
 use super::broken;
 use crate::calls::{Call, Case};
-use crate::generate::log::{book, of_replay, of_state, of_text_verdict, other_count};
+use crate::generate::log::{book, legacy_text, of_replay, of_state, of_text_verdict, other_count};
 use crate::generate::{damage, size};
 use crate::harness::Harness;
 use crate::model::log::{BUFFER_LEN, Book, CAPACITY, ENTRY_LEN};
@@ -106,6 +106,15 @@ pub fn text_lengths(harness: &mut Harness, rng: &mut Rng) {
             run_text(harness, &text, rng);
         }
     }
+}
+
+/// Logs in the legacy form, of every number of entries, and an entry behind a full one.
+pub fn legacy_texts(harness: &mut Harness, rng: &mut Rng) {
+    for entries in 1..=CAPACITY {
+        run_text(harness, &legacy_text(entries, rng), rng);
+    }
+    let behind = [legacy_text(CAPACITY, rng), legacy_text(1, rng)].concat();
+    run_text(harness, &behind, rng);
 }
 
 /// Every set of broken rules of each call.
