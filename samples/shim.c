@@ -1,12 +1,13 @@
 /* Preloaded into a program by samples/check: read, write and close as a bad disk, a signal, a slow line or a full disk would have them.
  *
- * The reads on descriptors above 2 are counted, and the writes on descriptor 1, each from 1 on. Variables of the environment choose what happens to them;
- * CALLS is a list of numbers with commas between, or "all":
+ * The reads on descriptors above 2 are counted, the writes on descriptor 1, and those on descriptor 2, each from 1 on. Variables of the environment choose what
+ * happens to them; CALLS is a list of numbers with commas between, or "all":
  *
  *   READ_FAILS=CALLS        these reads fail with EIO
  *   READ_INTERRUPTED=CALLS  these reads are interrupted by a signal (EINTR)
  *   READ_MOST=N             no read gives more than N bytes
  *   WRITE_FAILS=CALLS, WRITE_INTERRUPTED=CALLS, WRITE_MOST=N   the same of writes, which fail with ENOSPC
+ *   ERROR_FAILS=CALLS, ERROR_INTERRUPTED=CALLS, ERROR_MOST=N   and of the writes on descriptor 2
  *   CLOSE_FAILS=1           closing descriptor 1 fails with EDQUOT
  */
 #define _GNU_SOURCE
@@ -64,19 +65,19 @@ ssize_t read(int fd, void *buffer, size_t count)
 
 ssize_t write(int fd, const void *buffer, size_t count)
 {
-    static unsigned long writes;
-    if (fd != 1)
+    static unsigned long writes[3];
+    if (fd != 1 && fd != 2)
         return syscall(SYS_write, fd, buffer, count);
-    writes++;
-    if (listed("WRITE_FAILS", writes)) {
+    writes[fd]++;
+    if (listed(fd == 1 ? "WRITE_FAILS" : "ERROR_FAILS", writes[fd])) {
         errno = ENOSPC;
         return -1;
     }
-    if (listed("WRITE_INTERRUPTED", writes)) {
+    if (listed(fd == 1 ? "WRITE_INTERRUPTED" : "ERROR_INTERRUPTED", writes[fd])) {
         errno = EINTR;
         return -1;
     }
-    return syscall(SYS_write, fd, buffer, limited("WRITE_MOST", count));
+    return syscall(SYS_write, fd, buffer, limited(fd == 1 ? "WRITE_MOST" : "ERROR_MOST", count));
 }
 
 int close(int fd)

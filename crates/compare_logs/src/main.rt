@@ -14,13 +14,20 @@ use words::write_words;
 // The longest text and one byte more, so that a longer file is seen to be longer.
 const READ_LEN: usize = Log::BUFFER_LEN + 1;
 
+// What the comparison of the texts in the files that arguments 1 and 2 name says.
 fn compare(report: Report, left: &[u8], right: &[u8]) -> Report {
     let comparison = log_comparison::compare(left, right);
     let judged = comparison.judged;
     let pmrs = comparison.pmrs;
     match judged {
-        Judged::LeftRefused(why) => report.text(b"refused left ").refusal(why),
-        Judged::RightRefused(why) => report.text(b"refused right ").refusal(why),
+        Judged::LeftRefused(why) => {
+            legacy_log::explain(1, left);
+            report.text(b"refused left ").refusal(why)
+        }
+        Judged::RightRefused(why) => {
+            legacy_log::explain(2, right);
+            report.text(b"refused right ").refusal(why)
+        }
         Judged::Accepted => write_words(write_lines(report, pmrs), pmrs),
     }
 }
