@@ -3,7 +3,7 @@ use Prim.Native.Nat.{ℕ, suc, zero, _+_, _-_, _*_, _/_, _%_, _^_, _<_, _≤_}
 use mathlib.Core.Path.{_≡_, refl, sym, ap, _∙_}
 use mathlib.Core.List.{List, [], _∷_, _++_}
 use native.Mathlib.Omega.{arith}
-use native.Mathlib.Nat.{add-assoc, pow-suc}
+use native.Mathlib.Nat.{zero-add, suc-add, add-assoc, mul-zero, mul-assoc, pow-zero, pow-suc, pow-succ'}
 use lib.Arith.{lt-one}
 use lib.Seq.{getD-append-add, drop-cons}
 use lib.ListN.{length, getD, take, drop, List·getD-eq-default}
@@ -16,11 +16,27 @@ number-past (suc w) b i h =
     let h′ : length b ≤ i + 1 = omega arith in
     omega (arith, List·getD-eq-default b 0 h, number-past w b (i + 1) h′)
 
--- four bytes are two and two
-pub number-four : (b : List ℕ) (i : ℕ) → numberAt 4 b i ≡ numberAt 2 b i + 65536 * numberAt 2 b (i + 2)
-number-four b i =
-    let e : i + 1 + 1 ≡ i + 2 = omega arith in
-    omega (arith, ap (λ (k : ℕ). getD b k 0) e, ap (λ (k : ℕ). getD b (k + 1) 0) e)
+-- the number of v + w bytes, by that of the first v and that of the others
+pub number-split : (v w : ℕ) (b : List ℕ) (i : ℕ) → numberAt (v + w) b i ≡ numberAt v b i + 256 ^ v * numberAt w b (i + v)
+number-split zero w b i =
+    let none : i + 0 ≡ i = omega arith in
+    ap (λ (k : ℕ). numberAt k b i) (zero-add w)
+    ∙ sym (ap (numberAt w b) none)
+    ∙ omega (arith, ap (λ (k : ℕ). k * numberAt w b (i + 0)) (pow-zero 256))
+number-split (suc v) w b i =
+    let next : i + 1 + v ≡ i + suc v = omega arith in
+    let rest : ℕ = numberAt w b (i + suc v) in
+    let power : 256 ^ suc v * rest ≡ 256 * (256 ^ v * rest) = ap (λ (k : ℕ). k * rest) (pow-succ' 256 v) ∙ mul-assoc 256 (256 ^ v) rest in
+    let tail : numberAt (v + w) b (i + 1) ≡ numberAt v b (i + 1) + 256 ^ v * rest =
+    number-split v w b (i + 1) ∙ ap (λ (k : ℕ). numberAt v b (i + 1) + 256 ^ v * numberAt w b k) next in
+    ap (λ (k : ℕ). numberAt k b i) (suc-add v w) ∙ omega (arith, power, tail)
+
+-- where the others are past the end
+pub number-low : (v w : ℕ) (b : List ℕ) (i : ℕ) → length b ≤ i + v → numberAt (v + w) b i ≡ numberAt v b i
+number-low v w b i h =
+    number-split v w b i
+    ∙ ap (λ (n : ℕ). numberAt v b i + 256 ^ v * n) (number-past w b (i + v) h)
+    ∙ omega (arith, mul-zero (256 ^ v))
 
 -- a number in b, read behind p
 pub number-append : (w : ℕ) (p b : List ℕ) (i : ℕ) → numberAt w (p ++ b) (length p + i) ≡ numberAt w b i

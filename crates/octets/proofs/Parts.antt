@@ -4,8 +4,8 @@ use mathlib.Core.Path.{_≡_, sym, ap, _∙_}
 use mathlib.Core.List.{List, [], _++_, append-nil}
 use native.Mathlib.Nat.{zero-add}
 use native.Mathlib.Omega.{arith}
-use lib.ListN.{length, take, drop, length-append, length-take, length-drop, drop-of-length-le}
-use lib.Seq.{take-at, take-all, length-take-le, drop-append-seam}
+use lib.ListN.{length, take, drop, length-append, length-take, length-drop, drop-of-length-le, take-append-drop}
+use lib.Seq.{take-at, take-all, length-take-le, drop-append-seam, drop-drop}
 use Rattle.octets.specs.Octets.{Bytes, zeros, pasted, padded, bytesAt}
 use Rattle.octets.proofs.Buffers.{pasted-fits, length-zeros, length-padded, drop-zeros, bytes-append, bytes-take, bytes-drop, bytes-zeros}
 
@@ -52,6 +52,10 @@ put-at w b i part e =
     ∙ ap (λ (x : List ℕ). part ++ x) (drop-zeros (length part) w)
     ∙ ap (padded w) e
 
+-- n elements from index i on, and those behind them
+pub take-then-drop : (n i : ℕ) (b : List ℕ) → take n (drop i b) ++ drop (i + n) b ≡ drop i b
+take-then-drop n i b = ap (λ (rest : List ℕ). take n (drop i b) ++ rest) (sym (drop-drop n i b)) ∙ take-append-drop n (drop i b)
+
 -- ---- put one behind the other
 
 -- the parts so far fill the first k bytes of w, and x is put behind them
@@ -66,3 +70,10 @@ put-next done w x w′ k n f e l p =
 -- the parts fill all of w
 pub filled : (done w : List ℕ) (n : ℕ) → take n w ≡ done → length w ≡ n → w ≡ done
 filled done w n f l = sym (take-all n w (omega arith)) ∙ f
+
+-- what stands at the front, replaced
+pub put-front : (front rest new : List ℕ) → length new ≡ length front → pasted (front ++ rest) 0 new ≡ new ++ rest
+put-front front rest new l =
+    pasted-fits (front ++ rest) 0 new (omega (arith, length-append front rest))
+    ∙ ap (λ (n : ℕ). new ++ drop n (front ++ rest)) (zero-add (length new) ∙ l)
+    ∙ ap (λ (x : List ℕ). new ++ x) (drop-append-seam front rest)

@@ -35,6 +35,20 @@ pub fn u32_at(b: &[u8], at: usize) -> u32
     low + 65536 * high
 }
 
+pub fn u64_at(b: &[u8], at: usize) -> u64
+    ensures { λ r. ⌜ r ≡ numberAt 8 (now (b .entry)) at ⌝ }
+{
+    if b.len() <= at {
+        return 0;
+    }
+    let low = u32_at(b, at) as u64;
+    if b.len() - at <= 4 {
+        return low;
+    }
+    let high = u32_at(b, at + 4) as u64;
+    low + 4294967296 * high
+}
+
 pub fn u16_bytes(n: u16) -> [u8; 2]
     ensures { λ r. ⌜ r ≡ bytesOf 2 n ⌝ }
 {
@@ -52,6 +66,28 @@ pub fn u32_bytes(n: u32) -> [u8; 4]
         (n1 % 256) as u8,
         (n2 % 256) as u8,
         (n3 % 256) as u8,
+    ]
+}
+
+pub fn u64_bytes(n: u64) -> [u8; 8]
+    ensures { λ r. ⌜ r ≡ bytesOf 8 n ⌝ }
+{
+    let q1 = n / 256;
+    let q2 = q1 / 256;
+    let q3 = q2 / 256;
+    let q4 = q3 / 256;
+    let q5 = q4 / 256;
+    let q6 = q5 / 256;
+    let q7 = q6 / 256;
+    [
+        (n % 256) as u8,
+        (q1 % 256) as u8,
+        (q2 % 256) as u8,
+        (q3 % 256) as u8,
+        (q4 % 256) as u8,
+        (q5 % 256) as u8,
+        (q6 % 256) as u8,
+        (q7 % 256) as u8,
     ]
 }
 
