@@ -14,8 +14,9 @@
  * - No pointer is NULL, not even one whose length is 0: that one may be any
  *   other address.
  * - Pointers to size_t, uint32_t and cerberus_slot are aligned as C aligns
- *   these. Pointers to bytes, and to cerberus_pmr_comparison, which is made of
- *   bytes, may lie anywhere.
+ *   these. Pointers to bytes, to cerberus_pmr_comparison, which is made of bytes,
+ *   and to cerberus_log, which is read and written as bytes, may lie anywhere as
+ *   far as the calls are concerned.
  * - What a call writes, be it a buffer, a state or an answer, overlaps nothing
  *   else that the call is lent. What it only reads may overlap.
  * - Nothing else writes to what a call is lent, nor reads what it writes, until
@@ -103,47 +104,94 @@ uint8_t cerberus_pairing_key(const uint8_t *session_key, size_t session_key_len,
  * Refuses nothing. */
 uint8_t cerberus_certificate_slots(uint8_t mask, uint8_t *count, uint8_t *lowest);
 
-/* ---- the measurement log: *count is its state, the number of entries */
+/* ---- the measurement log
+ *
+ * A log is a state and a buffer, and the caller keeps both. The state holds the
+ * five registers, so that a register read hashes nothing and a record hashes
+ * once, whatever the buffer holds. cerberus_log_check tells whether the buffer is
+ * still what the state says. Event types, and the order between PMRs, are in no
+ * register: a buffer in which another hand changed these alone, to what records
+ * would have written, passes.
+ *
+ * To a caller that kept the state of earlier versions, one size_t that counted
+ * the entries: the calls keep their names, but take a pointer to a cerberus_log.
+ * Change every caller and compile it again. One that still lends its size_t has
+ * 208 bytes written over its 8; a C compiler may only warn of it, and a linker
+ * sees nothing. Where a log is to live on and its count is at
+ * most 64 (any other was refused with 4 before), copy the first 89 times count
+ * bytes of its buffer elsewhere and replay that copy into the buffer:
+ * cerberus_log_replay works the registers out and makes the state, or refuses
+ * with 4 entries that no run of records writes. It clears what stood behind the
+ * entries; a byte there that wasn't zero was 4 before, so look first where that
+ * matters. Setting count alone makes no state: its PMRs' numbers don't add up to
+ * it. Record and register read no longer look at what the buffer holds: a caller
+ * that relied on their 4 for a damaged buffer asks cerberus_log_check. */
 
 #define CERBERUS_LOG_ENTRY_LEN 89
 #define CERBERUS_LOG_CAPACITY 64
 #define CERBERUS_LOG_BUFFER_LEN 5696
+#define CERBERUS_PMRS 5
 
-/* An empty log: buffer becomes zero, *count 0.
+/* One PMR in a log's state. */
+typedef struct {
+    uint8_t value[32]; /* its register */
+    uint64_t entries;  /* how many of the log's entries are its own */
+} cerberus_pmr;
+
+/* The state of a log: count in bytes 0 to 7, then PMR0 to PMR4 in 40 bytes each,
+ * 32 of its register and 8 of its number of entries; 208 bytes, none of them
+ * padding. Numbers have their low byte first. Any bytes may be handed in: they
+ * are a state where the five PMRs' entries add up to count and count is at most
+ * 64, whatever the registers are; a call that reads a state refuses any other
+ * with 4. Read-out, its companion and check hold the registers against the
+ * buffer. */
+typedef struct {
+    uint64_t count; /* the log's entries */
+    cerberus_pmr pmrs[CERBERUS_PMRS];
+} cerberus_log;
+
+/* An empty log: buffer becomes zero, and *log, which is not read, the state of
+ * an empty log.
  * Refuses: 3 buffer has not exactly 5,696 bytes. */
-uint8_t cerberus_log_reset(size_t *count, uint8_t *buffer, size_t buffer_len);
+uint8_t cerberus_log_reset(cerberus_log *log, uint8_t *buffer, size_t buffer_len);
 
-/* One more entry; *count rises by one.
- * Refuses: 3 buffer length; 4 count above 64, or the log in buffer isn't what
- * records from a reset write; 5 pmr above 4; 7 64 entries present. */
-uint8_t cerberus_log_record(size_t *count, uint8_t pmr, uint32_t event_type, const uint8_t digest[32],
+/* One more entry, made from the PMR's register and number in *log and put into
+ * buffer at 89 times count, whatever buffer holds; its other bytes stay. *log
+ * becomes the next state: count and the PMR's entries one more, its register
+ * SHA-256 of the old one followed by digest. digest lies outside *log.
+ * Refuses: 3 buffer length; 4 *log is not a state; 5 pmr above 4; 7 64 entries
+ * present. */
+uint8_t cerberus_log_record(cerberus_log *log, uint8_t pmr, uint32_t event_type, const uint8_t digest[32],
                             uint8_t *buffer, size_t buffer_len);
 
-/* A register's 32 bytes, worked out from the log.
+/* A register's 32 bytes, those of *log, whatever buffer holds. value lies outside
+ * *log.
  * Refuses: 3; 4; 5, as record. */
-uint8_t cerberus_log_register(size_t count, uint8_t pmr, const uint8_t *buffer, size_t buffer_len,
+uint8_t cerberus_log_register(const cerberus_log *log, uint8_t pmr, const uint8_t *buffer, size_t buffer_len,
                               uint8_t value[32]);
 
 /* The log's text: the first *text_len bytes of buffer.
- * Refuses: 3; 4, as record. */
-uint8_t cerberus_log_read_out(size_t count, const uint8_t *buffer, size_t buffer_len, size_t *text_len);
+ * Refuses: 3 buffer length; 4 *log is not a state, or buffer isn't what records
+ * from a reset write, or their registers or numbers aren't those of *log. */
+uint8_t cerberus_log_read_out(const cerberus_log *log, const uint8_t *buffer, size_t buffer_len, size_t *text_len);
 
-/* The number that cerberus_log_read_out answers for the same log. */
-uint8_t cerberus_log_read_out_verdict(size_t count, const uint8_t *buffer, size_t buffer_len);
+/* The number that cerberus_log_read_out answers for the same *log and buffer. */
+uint8_t cerberus_log_read_out_verdict(const cerberus_log *log, const uint8_t *buffer, size_t buffer_len);
+
+/* Whether buffer is what *log says: answers as cerberus_log_read_out_verdict. */
+uint8_t cerberus_log_check(const cerberus_log *log, const uint8_t *buffer, size_t buffer_len);
 
 /* A new run from a recorded text: buffer becomes the text and then zeros,
- * whatever it held, and *count the text's entries; *count is not read.
+ * whatever it held, and *log, which is not read, the state of the text's records.
  * Refuses: 3 buffer length; 2 text_len not a multiple of 89 or above 5,696;
  * 4 no run of records from a reset writes the text. */
-uint8_t cerberus_log_replay(size_t *count, const uint8_t *text, size_t text_len, uint8_t *buffer, size_t buffer_len);
+uint8_t cerberus_log_replay(cerberus_log *log, const uint8_t *text, size_t text_len, uint8_t *buffer, size_t buffer_len);
 
 /* ---- recorded logs, read without a buffer */
 
 /* Whether a replay takes the text.
  * Refuses: 2; 4, as cerberus_log_replay. */
 uint8_t cerberus_log_text_verdict(const uint8_t *text, size_t text_len);
-
-#define CERBERUS_PMRS 5
 
 /* What the texts of two logs say of one PMR. */
 typedef struct {

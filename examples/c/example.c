@@ -1,6 +1,6 @@
-/* The controller calls from C: a measurement log with three events, which is compared with another
- * card's, a manifest that comes in by Cerberus messages and is then asked for its version id, and a
- * card that is bound to its chassis.
+/* The controller calls from C: a measurement log with three events, whose buffer another hand writes to
+ * and a replay repairs, and which is compared with another card's; a manifest that comes in by Cerberus
+ * messages and is then asked for its version id; and a card that is bound to its chassis.
  * The status is 1 if a call answers something that it shouldn't. */
 #include "cerberus.h"
 #include "same_bytes.h"
@@ -40,33 +40,61 @@ static void print_bytes(const uint8_t *bytes, size_t len) {
 
 static uint8_t log_buffer[CERBERUS_LOG_BUFFER_LEN];
 
-static void record(size_t *count, uint8_t *buffer, uint8_t pmr, uint32_t event_type, const char *firmware) {
+static void record(cerberus_log *log, uint8_t *buffer, uint8_t pmr, uint32_t event_type, const char *firmware) {
     uint8_t digest[32];
     uint8_t answer = cerberus_sha256((const uint8_t *)firmware, strlen(firmware), digest);
     expect(answer, CERBERUS_ACCEPTED, "hash");
-    answer = cerberus_log_record(count, pmr, event_type, digest, buffer, CERBERUS_LOG_BUFFER_LEN);
+    answer = cerberus_log_record(log, pmr, event_type, digest, buffer, CERBERUS_LOG_BUFFER_LEN);
     expect(answer, CERBERUS_ACCEPTED, "record");
-    printf("  recorded \"%s\" in PMR%u, event type %u: %zu entries\n", firmware, pmr, event_type, *count);
+    printf("  recorded \"%s\" in PMR%u, event type %u: %llu entries\n", firmware, pmr, event_type,
+           (unsigned long long)log->count);
 }
 
-static void show_registers(size_t count) {
-    for (uint8_t pmr = 0; pmr < CERBERUS_PMRS; pmr++) {
-        uint8_t value[32];
-        uint8_t answer = cerberus_log_register(count, pmr, log_buffer, sizeof log_buffer, value);
-        expect(answer, CERBERUS_ACCEPTED, "register");
-        printf("  PMR%u ", pmr);
-        print_bytes(value, sizeof value);
+static void show_register(const cerberus_log *log, uint8_t pmr) {
+    uint8_t value[32];
+    uint8_t answer = cerberus_log_register(log, pmr, log_buffer, sizeof log_buffer, value);
+    expect(answer, CERBERUS_ACCEPTED, "register");
+    if (memcmp(value, log->pmrs[pmr].value, sizeof value) != 0) {
+        fprintf(stderr, "the register isn't the state's\n");
+        exit(1);
     }
+    printf("  PMR%u ", pmr);
+    print_bytes(value, sizeof value);
 }
 
-/* The text of a log, replayed into another buffer, gives the same log. */
-static void replay(size_t count) {
-    static uint8_t other[CERBERUS_LOG_BUFFER_LEN];
-    size_t text_len, other_count;
-    expect(cerberus_log_read_out(count, log_buffer, sizeof log_buffer, &text_len), CERBERUS_ACCEPTED, "read-out");
-    expect(cerberus_log_replay(&other_count, log_buffer, text_len, other, sizeof other), CERBERUS_ACCEPTED, "replay");
-    printf("  the log's text has %zu bytes; replayed, %zu entries\n", text_len, other_count);
-    if (other_count != count || memcmp(other, log_buffer, sizeof other) != 0) {
+/* Whether the buffer is what the state says. */
+static void check(const cerberus_log *log, uint8_t right) {
+    uint8_t answer = cerberus_log_check(log, log_buffer, sizeof log_buffer);
+    expect(answer, right, "check");
+    printf("  check: ");
+    print_answer(stdout, answer);
+    printf("\n");
+}
+
+/* A replay of a log's text makes that log again, its state and its buffer, whatever both hold. */
+static void replay(cerberus_log *log, const uint8_t *text, size_t text_len) {
+    expect(cerberus_log_replay(log, text, text_len, log_buffer, sizeof log_buffer), CERBERUS_ACCEPTED, "replay");
+    printf("  replayed the text that was read out: %llu entries\n", (unsigned long long)log->count);
+    check(log, CERBERUS_ACCEPTED);
+}
+
+/* Another hand writes to the buffer. A register read doesn't see it, for the state keeps the registers; the check does. */
+static void damage_and_repair(cerberus_log *log) {
+    static uint8_t text[CERBERUS_LOG_BUFFER_LEN];
+    const cerberus_log right = *log;
+    size_t text_len;
+    expect(cerberus_log_read_out(log, log_buffer, sizeof log_buffer, &text_len), CERBERUS_ACCEPTED, "read-out");
+    memcpy(text, log_buffer, text_len);
+    printf("  read out: %zu bytes\n", text_len);
+    log_buffer[CERBERUS_LOG_ENTRY_LEN + 21] ^= 1;
+    printf("  another hand changes a byte of the buffer\n");
+    check(log, CERBERUS_UNSOUND_STATE);
+    show_register(log, 0);
+    memset(log, 0xff, sizeof *log);
+    printf("  the state is lost too\n");
+    check(log, CERBERUS_UNSOUND_STATE);
+    replay(log, text, text_len);
+    if (memcmp(log, &right, sizeof right) != 0 || memcmp(log_buffer, text, sizeof text) != 0) {
         fprintf(stderr, "the replayed log differs\n");
         exit(1);
     }
@@ -84,17 +112,17 @@ static void show_comparison(const cerberus_pmr_comparison comparison[CERBERUS_PM
 }
 
 /* Another card recorded the same boot loader and frame memory, in another order, and newer controller firmware. */
-static void compare(size_t count) {
-    static uint8_t other[CERBERUS_LOG_BUFFER_LEN];
+static void compare(const cerberus_log *log) {
+    static uint8_t other_buffer[CERBERUS_LOG_BUFFER_LEN];
     cerberus_pmr_comparison comparison[CERBERUS_PMRS];
-    size_t other_count;
+    cerberus_log other;
     printf("another card's log, compared\n");
-    expect(cerberus_log_reset(&other_count, other, sizeof other), CERBERUS_ACCEPTED, "reset");
-    record(&other_count, other, 3, 10, "frame-memory firmware");
-    record(&other_count, other, 0, 8, "boot loader");
-    record(&other_count, other, 0, 1, "newer controller firmware");
-    uint8_t answer = cerberus_log_compare(log_buffer, count * CERBERUS_LOG_ENTRY_LEN, other,
-                                          other_count * CERBERUS_LOG_ENTRY_LEN, comparison);
+    expect(cerberus_log_reset(&other, other_buffer, sizeof other_buffer), CERBERUS_ACCEPTED, "reset");
+    record(&other, other_buffer, 3, 10, "frame-memory firmware");
+    record(&other, other_buffer, 0, 8, "boot loader");
+    record(&other, other_buffer, 0, 1, "newer controller firmware");
+    uint8_t answer = cerberus_log_compare(log_buffer, log->count * CERBERUS_LOG_ENTRY_LEN, other_buffer,
+                                          other.count * CERBERUS_LOG_ENTRY_LEN, comparison);
     expect(answer, CERBERUS_ACCEPTED, "compare");
     show_comparison(comparison);
     if (comparison[0].agree || comparison[0].differ_at != 1 || !comparison[3].agree || !comparison[3].same_register) {
@@ -104,16 +132,18 @@ static void compare(size_t count) {
 }
 
 static void measure(void) {
-    size_t count;
+    cerberus_log log;
     printf("measurement log\n");
-    expect(cerberus_log_reset(&count, log_buffer, sizeof log_buffer), CERBERUS_ACCEPTED, "reset");
-    printf("  reset: %zu entries\n", count);
-    record(&count, log_buffer, 0, 8, "boot loader");
-    record(&count, log_buffer, 0, 1, "controller firmware");
-    record(&count, log_buffer, 3, 10, "frame-memory firmware");
-    show_registers(count);
-    replay(count);
-    compare(count);
+    expect(cerberus_log_reset(&log, log_buffer, sizeof log_buffer), CERBERUS_ACCEPTED, "reset");
+    printf("  reset: %llu entries\n", (unsigned long long)log.count);
+    record(&log, log_buffer, 0, 8, "boot loader");
+    record(&log, log_buffer, 0, 1, "controller firmware");
+    record(&log, log_buffer, 3, 10, "frame-memory firmware");
+    for (uint8_t pmr = 0; pmr < CERBERUS_PMRS; pmr++)
+        show_register(&log, pmr);
+    check(&log, CERBERUS_ACCEPTED);
+    damage_and_repair(&log);
+    compare(&log);
 }
 
 /* ---- the manifest slot */

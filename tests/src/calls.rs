@@ -29,6 +29,7 @@ pub enum Call {
     LogRegister,
     LogReadOut,
     LogReadOutVerdict,
+    LogCheck,
     LogReplay,
     LogTextVerdict,
     LogCompare,
@@ -53,7 +54,7 @@ pub enum Call {
 
 use Call::*;
 
-pub const CALLS: [Call; 30] = [
+pub const CALLS: [Call; 31] = [
     Meaning,
     Sha256,
     HmacSha256,
@@ -64,6 +65,7 @@ pub const CALLS: [Call; 30] = [
     LogRegister,
     LogReadOut,
     LogReadOutVerdict,
+    LogCheck,
     LogReplay,
     LogTextVerdict,
     LogCompare,
@@ -96,6 +98,7 @@ pub struct Signature {
     pub lent: &'static [(&'static str, Kind)],
 }
 
+const STATE_AND_BUFFER: &[(&str, Kind)] = &[("log", Bytes), ("buffer", Bytes)];
 const READ_REGION: &[(&str, Kind)] = &[("element", Bytes), ("start", Value), ("end", Value)];
 
 impl Call {
@@ -106,20 +109,26 @@ impl Call {
             HmacSha256 => ("cerberus_hmac_sha256", &[0, 2], &[], &[("key", Bytes), ("text", Bytes), ("mac", Bytes)]),
             PairingKey => ("cerberus_pairing_key", &[0, 2, 3], &[], &[("session_key", Bytes), ("pairing_key", Bytes)]),
             CertificateSlots => ("cerberus_certificate_slots", &[0], &["mask"], &[("count", Value), ("lowest", Value)]),
-            LogReset => ("cerberus_log_reset", &[0, 3], &[], &[("count", Value), ("buffer", Bytes)]),
+            LogReset => ("cerberus_log_reset", &[0, 3], &[], STATE_AND_BUFFER),
             LogRecord => (
                 "cerberus_log_record",
                 &[0, 3, 4, 5, 7],
                 &["pmr", "event_type"],
-                &[("count", Value), ("digest", Bytes), ("buffer", Bytes)],
+                &[("log", Bytes), ("digest", Bytes), ("buffer", Bytes)],
             ),
-            LogRegister => {
-                ("cerberus_log_register", &[0, 3, 4, 5], &["count", "pmr"], &[("buffer", Bytes), ("value", Bytes)])
+            LogRegister => (
+                "cerberus_log_register",
+                &[0, 3, 4, 5],
+                &["pmr"],
+                &[("log", Bytes), ("buffer", Bytes), ("value", Bytes)],
+            ),
+            LogReadOut => {
+                ("cerberus_log_read_out", &[0, 3, 4], &[], &[("log", Bytes), ("buffer", Bytes), ("text_len", Value)])
             }
-            LogReadOut => ("cerberus_log_read_out", &[0, 3, 4], &["count"], &[("buffer", Bytes), ("text_len", Value)]),
-            LogReadOutVerdict => ("cerberus_log_read_out_verdict", &[0, 3, 4], &["count"], &[("buffer", Bytes)]),
+            LogReadOutVerdict => ("cerberus_log_read_out_verdict", &[0, 3, 4], &[], STATE_AND_BUFFER),
+            LogCheck => ("cerberus_log_check", &[0, 3, 4], &[], STATE_AND_BUFFER),
             LogReplay => {
-                ("cerberus_log_replay", &[0, 2, 3, 4], &[], &[("count", Value), ("text", Bytes), ("buffer", Bytes)])
+                ("cerberus_log_replay", &[0, 2, 3, 4], &[], &[("log", Bytes), ("text", Bytes), ("buffer", Bytes)])
             }
             LogTextVerdict => ("cerberus_log_text_verdict", &[0, 2, 4], &[], &[("text", Bytes)]),
             LogCompare => {
@@ -272,9 +281,10 @@ pub fn call_library(case: &Case, at: &[*mut u8]) -> u8 {
             CertificateSlots => ffi::cerberus_certificate_slots(n[0] as u8, at[0], at[1]),
             LogReset => ffi::cerberus_log_reset(at[0].cast(), at[1], len(1)),
             LogRecord => ffi::cerberus_log_record(at[0].cast(), n[0] as u8, n[1] as u32, at[1], at[2], len(2)),
-            LogRegister => ffi::cerberus_log_register(n[0] as usize, n[1] as u8, at[0], len(0), at[1]),
-            LogReadOut => ffi::cerberus_log_read_out(n[0] as usize, at[0], len(0), at[1].cast()),
-            LogReadOutVerdict => ffi::cerberus_log_read_out_verdict(n[0] as usize, at[0], len(0)),
+            LogRegister => ffi::cerberus_log_register(at[0].cast(), n[0] as u8, at[1], len(1), at[2]),
+            LogReadOut => ffi::cerberus_log_read_out(at[0].cast(), at[1], len(1), at[2].cast()),
+            LogReadOutVerdict => ffi::cerberus_log_read_out_verdict(at[0].cast(), at[1], len(1)),
+            LogCheck => ffi::cerberus_log_check(at[0].cast(), at[1], len(1)),
             LogReplay => ffi::cerberus_log_replay(at[0].cast(), at[1], len(1), at[2], len(2)),
             LogTextVerdict => ffi::cerberus_log_text_verdict(at[0], len(0)),
             LogCompare => ffi::cerberus_log_compare(at[0], len(0), at[1], len(1), at[2].cast()),
@@ -349,13 +359,13 @@ fn put_size(memory: &mut [u8], number: u64) {
     put(memory, number.to_ne_bytes());
 }
 
-fn size_in(memory: &[u8]) -> u64 {
-    u64::from_ne_bytes(memory.try_into().unwrap())
-}
-
 fn put_region(start: &mut [u8], end: &mut [u8], region: element::Region) {
     put(start, region.start.to_ne_bytes());
     put(end, region.end.to_ne_bytes());
+}
+
+fn put_log(memory: &mut [u8], state: log::State) {
+    memory.copy_from_slice(&ffi::log_bytes(&state));
 }
 
 fn put_slot(memory: &mut [u8], slot: slot::Slot) {
@@ -384,19 +394,19 @@ fn apply_model(call: Call, n: &[u64], lent: &mut [Vec<u8>]) -> Answer<()> {
             put(count, [held]);
             put(lowest, [first]);
         }
-        (LogReset, [count, buffer]) => put_size(count, log::reset(buffer)?),
-        (LogRecord, [count, digest, buffer]) => {
+        (LogReset, [log, buffer]) => put_log(log, log::reset(buffer)?),
+        (LogRecord, [log, digest, buffer]) => {
             let digest = digest[..].try_into().unwrap();
             let record = log::Record { pmr: n[0] as u8, event_type: n[1] as u32, digest };
-            let next = log::record(size_in(count), record, buffer)?;
-            put_size(count, next);
+            let next = log::record(&ffi::log_state(log), record, buffer)?;
+            put_log(log, next);
         }
-        (LogRegister, [buffer, value]) => put(value, log::register(n[0], n[1] as u8, buffer)?),
-        (LogReadOut, [buffer, text_len]) => put_size(text_len, log::read_out(n[0], buffer)?),
-        (LogReadOutVerdict, [buffer]) => {
-            log::read_out(n[0], buffer)?;
+        (LogRegister, [log, buffer, value]) => {
+            put(value, log::register(&ffi::log_state(log), n[0] as u8, buffer)?);
         }
-        (LogReplay, [count, text, buffer]) => put_size(count, log::replay(text, buffer)?),
+        (LogReadOut, [log, buffer, text_len]) => put_size(text_len, log::read_out(&ffi::log_state(log), buffer)?),
+        (LogReadOutVerdict | LogCheck, [log, buffer]) => log::check(&ffi::log_state(log), buffer)?,
+        (LogReplay, [log, text, buffer]) => put_log(log, log::replay(text, buffer)?),
         (LogTextVerdict, [text]) => {
             log::Book::of_text(text)?;
         }

@@ -2,7 +2,8 @@
 //! so the self-test would show a declaration that is not the header's.
 
 use crate::model::comparison::PmrComparison;
-use crate::model::log::PMRS;
+use crate::model::little_endian;
+use crate::model::log::{PMRS, Pmr, State};
 use crate::model::slot::Numbers;
 
 /// The header's cerberus_slot.
@@ -34,6 +35,39 @@ pub fn slot_numbers(bytes: &[u8]) -> Numbers {
         total: field(4),
         received: field(5),
     }
+}
+
+/// The header's cerberus_pmr.
+#[repr(C)]
+pub struct LogPmr {
+    value: [u8; 32],
+    entries: u64,
+}
+
+/// The header's cerberus_log. It is lent as bytes, at any address.
+#[repr(C)]
+pub struct Log {
+    count: u64,
+    pmrs: [LogPmr; PMRS],
+}
+
+const PMR_LEN: usize = size_of::<LogPmr>();
+pub const LOG_LEN: usize = size_of::<Log>();
+
+/// A log's state, as the header has it lie in memory: numbers low byte first.
+pub fn log_bytes(state: &State) -> Vec<u8> {
+    let pmr = |pmr: &Pmr| [&pmr.register[..], &pmr.entries.to_le_bytes()].concat();
+    state.count.to_le_bytes().into_iter().chain(state.pmrs.iter().flat_map(pmr)).collect()
+}
+
+/// The state in any so many bytes.
+pub fn log_state(bytes: &[u8]) -> State {
+    let (count, pmrs) = bytes.split_at(8);
+    let pmr = |pmr: usize| {
+        let (register, entries) = pmrs[PMR_LEN * pmr..][..PMR_LEN].split_at(32);
+        Pmr { register: register.try_into().unwrap(), entries: little_endian(entries) }
+    };
+    State { count: little_endian(count), pmrs: std::array::from_fn(pmr) }
 }
 
 /// The header's cerberus_pmr_comparison.
@@ -73,20 +107,21 @@ unsafe extern "C" {
 
     pub fn cerberus_certificate_slots(mask: u8, count: *mut u8, lowest: *mut u8) -> u8;
 
-    pub fn cerberus_log_reset(count: *mut usize, buffer: *mut u8, buffer_len: usize) -> u8;
+    pub fn cerberus_log_reset(log: *mut Log, buffer: *mut u8, buffer_len: usize) -> u8;
     pub fn cerberus_log_record(
-        count: *mut usize,
+        log: *mut Log,
         pmr: u8,
         event_type: u32,
         digest: *const u8,
         buffer: *mut u8,
         buffer_len: usize,
     ) -> u8;
-    pub fn cerberus_log_register(count: usize, pmr: u8, buffer: *const u8, buffer_len: usize, value: *mut u8) -> u8;
-    pub fn cerberus_log_read_out(count: usize, buffer: *const u8, buffer_len: usize, text_len: *mut usize) -> u8;
-    pub fn cerberus_log_read_out_verdict(count: usize, buffer: *const u8, buffer_len: usize) -> u8;
+    pub fn cerberus_log_register(log: *const Log, pmr: u8, buffer: *const u8, buffer_len: usize, value: *mut u8) -> u8;
+    pub fn cerberus_log_read_out(log: *const Log, buffer: *const u8, buffer_len: usize, text_len: *mut usize) -> u8;
+    pub fn cerberus_log_read_out_verdict(log: *const Log, buffer: *const u8, buffer_len: usize) -> u8;
+    pub fn cerberus_log_check(log: *const Log, buffer: *const u8, buffer_len: usize) -> u8;
     pub fn cerberus_log_replay(
-        count: *mut usize,
+        log: *mut Log,
         text: *const u8,
         text_len: usize,
         buffer: *mut u8,

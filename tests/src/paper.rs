@@ -1,5 +1,6 @@
-//! Document 01's examples at the edges, published vectors, and what document 02 says of the legacy form of a log (Item 4)
-//! and of slots and pairing (Item 14), with the papers' own bytes: neither the library nor the model decides here what is right.
+//! Document 01's examples at the edges, published vectors, and what document 02 says of a log's state (Item 2), of its
+//! legacy form (Item 4) and of slots and pairing (Item 14), with the papers' own bytes: neither the library nor the
+//! model decides here what is right.
 
 use crate::calls::{Call, Case, Outcome, call_model};
 use crate::ffi::slot_bytes;
@@ -63,6 +64,9 @@ pub fn run(harness: &mut Harness) {
     elements(harness);
     first_record(harness);
     first_record_compared(harness);
+    kept_registers(harness);
+    record_over_any_buffer(harness);
+    numbers_of_a_state(harness);
     legacy_texts(harness);
     legacy_buffer(harness);
     limits(harness);
@@ -195,16 +199,101 @@ fn legacy_first_entry() -> Vec<u8> {
     first_entry_from("0b 57 00 00 00 00 00 0a 00 00 00 00 00 00 00 01 00 00 0b")
 }
 
+/// A log's state in the header's 208 bytes: the count, registers and numbers of PMR0 and PMR1; the others' are zero.
+fn log_state(count: u64, pmrs: [(&[u8], u64); 2]) -> Vec<u8> {
+    let mut state = count.to_le_bytes().to_vec();
+    for (register, entries) in pmrs {
+        state.extend(register);
+        state.extend(entries.to_le_bytes());
+    }
+    state.resize(208, 0);
+    state
+}
+
+/// A register before any record.
+const ZEROS: &[u8] = &[0; 32];
+
+/// The state after the first record.
+fn first_state() -> Vec<u8> {
+    log_state(1, [(&bytes(OF_64_ZEROS), 1), (ZEROS, 0)])
+}
+
+/// A log's buffer that holds these bytes at its front.
+fn log_buffer(mut front: Vec<u8>) -> Vec<u8> {
+    front.resize(5696, 0);
+    front
+}
+
 fn first_record(harness: &mut Harness) {
-    let mut entry = first_entry();
-    entry.resize(5696, 0);
-    let count = |count: u64| count.to_ne_bytes().to_vec();
-    let case = Case::new(Call::LogRecord, &[0, 10], vec![count(0), vec![0; 32], vec![0; 5696]]);
-    expect(harness, case, 0, vec![count(1), vec![0; 32], entry]);
+    let case = Case::new(Call::LogRecord, &[0, 10], vec![vec![0; 208], vec![0; 32], vec![0; 5696]]);
+    expect(harness, case, 0, vec![first_state(), vec![0; 32], log_buffer(first_entry())]);
+    let case = Case::new(Call::LogReplay, &[], vec![vec![9; 208], first_entry(), vec![7; 5696]]);
+    expect(harness, case, 0, vec![first_state(), first_entry(), log_buffer(first_entry())]);
+    let case = Case::new(Call::LogReset, &[], vec![first_state(), log_buffer(first_entry())]);
+    expect(harness, case, 0, vec![vec![0; 208], vec![0; 5696]]);
     // A fresh register reads as zeros.
     for pmr in 0..5 {
-        let case = Case::new(Call::LogRegister, &[0, pmr], vec![vec![0; 5696], vec![9; 32]]);
-        expect(harness, case, 0, vec![vec![0; 5696], vec![0; 32]]);
+        let case = Case::new(Call::LogRegister, &[pmr], vec![vec![0; 208], vec![0; 5696], vec![9; 32]]);
+        expect(harness, case, 0, vec![vec![0; 208], vec![0; 5696], vec![0; 32]]);
+    }
+}
+
+/// The three calls that hold the buffer to the state.
+fn judged(harness: &mut Harness, state: &[u8], buffer: &[u8], answer: u8) {
+    let lent = vec![state.to_vec(), buffer.to_vec()];
+    expect_unchanged(harness, Case::new(Call::LogReadOutVerdict, &[], lent.clone()), answer);
+    expect_unchanged(harness, Case::new(Call::LogCheck, &[], lent.clone()), answer);
+    if answer != 0 {
+        expect_unchanged(harness, Case::new(Call::LogReadOut, &[], [lent, vec![vec![9; 8]]].concat()), answer);
+    }
+}
+
+/// Item 2: a damaged buffer, or one unlike the state's registers or numbers, is 4 for read-out, its companion and check
+/// alone; a register read gives the state's register whatever the buffer holds.
+fn kept_registers(harness: &mut Harness) {
+    let (state, own) = (first_state(), log_buffer(first_entry()));
+    judged(harness, &state, &own, 0);
+    let case = Case::new(Call::LogReadOut, &[], vec![state.clone(), own.clone(), vec![9; 8]]);
+    expect(harness, case, 0, vec![state.clone(), own.clone(), 89u64.to_ne_bytes().to_vec()]);
+    judged(harness, &log_state(1, [(ZEROS, 1), (ZEROS, 0)]), &own, 4);
+    judged(harness, &log_state(1, [(&bytes(OF_64_ZEROS), 0), (ZEROS, 1)]), &own, 4);
+    judged(harness, &vec![0; 208], &own, 4);
+    for buffer in [vec![0; 5696], vec![0xff; 5696], log_buffer([first_entry(), vec![1]].concat())] {
+        judged(harness, &state, &buffer, 4);
+        for (pmr, register) in [(0, bytes(OF_64_ZEROS)), (1, ZEROS.to_vec())] {
+            let case = Case::new(Call::LogRegister, &[pmr], vec![state.clone(), buffer.clone(), vec![9; 32]]);
+            expect(harness, case, 0, vec![state.clone(), buffer.clone(), register]);
+        }
+    }
+}
+
+/// Item 2: the second record, PMR1, with the first one's event type and digest, over a buffer that holds anything.
+fn record_over_any_buffer(harness: &mut Harness) {
+    let entry = first_entry_from("cb 59 00 01 00 00 00 0a 00 00 00 00 01 00 00 01 00 00 00 0b 00");
+    let case = Case::new(Call::LogRecord, &[1, 10], vec![first_state(), vec![0; 32], vec![0xff; 5696]]);
+    let register = bytes(OF_64_ZEROS);
+    let mut buffer = vec![0xff; 5696];
+    buffer[89..178].copy_from_slice(&entry);
+    expect(harness, case, 0, vec![log_state(2, [(&register, 1), (&register, 1)]), vec![0; 32], buffer]);
+}
+
+/// Item 2: numbers that don't add up, or exceed 64, are 4 for every call that reads them; 64 of them don't.
+fn numbers_of_a_state(harness: &mut Harness) {
+    let half = 1 << 63;
+    for (count, pmr0, pmr1) in [(0, 1, 0), (1, 0, 0), (2, 1, 0), (65, 65, 0), (0, half, half), (1, u64::MAX, 2)] {
+        let state = log_state(count, [(ZEROS, pmr0), (ZEROS, pmr1)]);
+        judged(harness, &state, &vec![0; 5696], 4);
+        for pmr in [0, 5] {
+            let record = vec![state.clone(), vec![0; 32], vec![0; 5696]];
+            expect_unchanged(harness, Case::new(Call::LogRecord, &[pmr, 10], record), 4);
+            let register = vec![state.clone(), vec![0; 5696], vec![9; 32]];
+            expect_unchanged(harness, Case::new(Call::LogRegister, &[pmr], register), 4);
+        }
+    }
+    let full = log_state(64, [(ZEROS, 63), (ZEROS, 1)]);
+    for (pmr, answer) in [(0, 7), (4, 7), (5, 5)] {
+        let record = vec![full.clone(), vec![0; 32], vec![0; 5696]];
+        expect_unchanged(harness, Case::new(Call::LogRecord, &[pmr, 10], record), answer);
     }
 }
 
@@ -228,7 +317,7 @@ fn first_record_compared(harness: &mut Harness) {
 fn legacy_texts(harness: &mut Harness) {
     for entries in 1..=64 {
         let text = legacy_first_entry().repeat(entries);
-        let lent = vec![vec![9; 8], text.clone(), vec![7; 5696]];
+        let lent = vec![vec![9; 208], text.clone(), vec![7; 5696]];
         expect_unchanged(harness, Case::new(Call::LogReplay, &[], lent), 2);
         expect_unchanged(harness, Case::new(Call::LogTextVerdict, &[], vec![text.clone()]), 2);
         for (left, right) in [(text.clone(), first_entry()), (first_entry(), text)] {
@@ -240,17 +329,16 @@ fn legacy_texts(harness: &mut Harness) {
 /// Item 4: a buffer of the old length is 3, whatever else is right or wrong.
 fn legacy_buffer(harness: &mut Harness) {
     let buffer = vec![0; 5568];
-    let count = |count: u64| count.to_ne_bytes().to_vec();
     for text in [Vec::new(), first_entry(), legacy_first_entry()] {
-        expect_unchanged(harness, Case::new(Call::LogReplay, &[], vec![count(9), text, buffer.clone()]), 3);
+        expect_unchanged(harness, Case::new(Call::LogReplay, &[], vec![vec![9; 208], text, buffer.clone()]), 3);
     }
-    for (entries, pmr) in [(0, 0), (65, 5)] {
-        let record = vec![count(entries), vec![0; 32], buffer.clone()];
-        expect_unchanged(harness, Case::new(Call::LogReset, &[], vec![count(entries), buffer.clone()]), 3);
+    for (state, pmr) in [(vec![0; 208], 0), (vec![0xff; 208], 5)] {
+        judged(harness, &state, &buffer, 3);
+        expect_unchanged(harness, Case::new(Call::LogReset, &[], vec![state.clone(), buffer.clone()]), 3);
+        let record = vec![state.clone(), vec![0; 32], buffer.clone()];
         expect_unchanged(harness, Case::new(Call::LogRecord, &[pmr, 10], record), 3);
-        expect_unchanged(harness, Case::new(Call::LogRegister, &[entries, pmr], vec![buffer.clone(), vec![9; 32]]), 3);
-        expect_unchanged(harness, Case::new(Call::LogReadOut, &[entries], vec![buffer.clone(), count(9)]), 3);
-        expect_unchanged(harness, Case::new(Call::LogReadOutVerdict, &[entries], vec![buffer.clone()]), 3);
+        let register = vec![state, buffer.clone(), vec![9; 32]];
+        expect_unchanged(harness, Case::new(Call::LogRegister, &[pmr], register), 3);
     }
 }
 
@@ -272,9 +360,9 @@ fn limits(harness: &mut Harness) {
 
 /// The 64th record passes, the 65th is 7.
 fn sixty_fourth_record(harness: &mut Harness) {
-    let (mut count, mut buffer) = (0u64.to_ne_bytes().to_vec(), vec![0; 5696]);
+    let (mut state, mut buffer) = (vec![0; 208], vec![0; 5696]);
     for number in 1..=65 {
-        let lent = vec![count.clone(), vec![number; 32], buffer.clone()];
+        let lent = vec![state.clone(), vec![number; 32], buffer.clone()];
         let case = Case::new(Call::LogRecord, &[u64::from(number % 5), 10], lent);
         let expected = call_model(&case);
         assert_eq!(expected.answer, if number == 65 { 7 } else { 0 }, "the model differs from document 01");
@@ -282,7 +370,7 @@ fn sixty_fourth_record(harness: &mut Harness) {
             return;
         };
         buffer = found.lent.pop().unwrap();
-        count = found.lent.swap_remove(0);
+        state = found.lent.swap_remove(0);
     }
 }
 

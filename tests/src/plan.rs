@@ -3,9 +3,11 @@
 
 use crate::calls::{CALLS, Call};
 use crate::generate::Generator;
+use crate::generate::log::Pool;
 use crate::harness::Harness;
 use crate::rng::Rng;
 use crate::sequence::slot::Way;
+use crate::systematic::log::{BY_STATE, JUDGING, OVER_STATE, OVER_TEXT};
 use crate::{paper, sequence, systematic};
 
 /// So many random cases make a job.
@@ -30,12 +32,13 @@ impl Job {
     }
 }
 
-const OVER_LOG: [Call; 7] = [
+const OVER_LOG: [Call; 8] = [
     Call::LogReset,
     Call::LogRecord,
     Call::LogRegister,
     Call::LogReadOut,
     Call::LogReadOutVerdict,
+    Call::LogCheck,
     Call::LogReplay,
     Call::LogTextVerdict,
 ];
@@ -73,17 +76,7 @@ pub fn jobs(cases: u64) -> Vec<Job> {
 }
 
 fn systematic_jobs(plan: &mut Plan) {
-    for entries in [64, 12, 3, 1, 0] {
-        let name = format!("log-damaged-{entries}");
-        plan.add(&name, &OVER_LOG, move |harness, rng| systematic::log::damaged(harness, entries, rng));
-    }
-    plan.add("log-sizes", &OVER_LOG, systematic::log::sizes);
-    plan.add("log-pmrs", &OVER_LOG, systematic::log::pmrs);
-    plan.add("log-pmr-bytes", &OVER_LOG, systematic::log::pmr_bytes);
-    plan.add("log-buffer-lengths", &OVER_LOG, systematic::log::buffer_lengths);
-    plan.add("log-text-lengths", &OVER_LOG, systematic::log::text_lengths);
-    plan.add("log-legacy-texts", &OVER_LOG, systematic::log::legacy_texts);
-    plan.add("log-refusals-at-once", &OVER_LOG, systematic::log::refusals_at_once);
+    log_jobs(plan);
     comparison_jobs(plan);
     plan.add("slot-states", &OVER_SLOT, systematic::slot::states);
     plan.add("slot-totals", &OVER_SLOT, systematic::slot::totals);
@@ -108,6 +101,35 @@ fn systematic_jobs(plan: &mut Plan) {
     plan.add("meanings", &[Call::Meaning], systematic::meanings);
     plan.add("messages-to-hash", &[Call::Sha256], systematic::messages_to_hash);
     binding_jobs(plan);
+}
+
+/// A job has the calls of one kind where it can, so that the self-test runs no others for a fault.
+fn log_jobs(plan: &mut Plan) {
+    for entries in [64, 12, 3, 1, 0] {
+        plan.add(&format!("log-damaged-judged-{entries}"), &JUDGING, move |harness, rng| {
+            systematic::log::damaged(harness, &JUDGING, entries, rng)
+        });
+        plan.add(&format!("log-damaged-unjudged-{entries}"), &BY_STATE, move |harness, rng| {
+            systematic::log::damaged(harness, &BY_STATE, entries, rng)
+        });
+    }
+    for entries in [64, 12, 3, 1] {
+        let name = format!("log-text-damaged-{entries}");
+        plan.add(&name, &OVER_TEXT, move |harness, rng| systematic::log::damaged_texts(harness, entries, rng));
+    }
+    plan.add("log-sizes", &OVER_LOG, systematic::log::sizes);
+    plan.add("log-pmrs", &BY_STATE, systematic::log::pmrs);
+    plan.add("log-pmr-bytes", &OVER_LOG, systematic::log::pmr_bytes);
+    plan.add("log-other-runs", &OVER_STATE, systematic::log::other_runs);
+    plan.add("log-buffer-lengths", &OVER_LOG, systematic::log::buffer_lengths);
+    plan.add("log-text-lengths", &OVER_TEXT, systematic::log::text_lengths);
+    plan.add("log-legacy-texts", &OVER_TEXT, systematic::log::legacy_texts);
+    plan.add("log-refusals-at-once", &OVER_STATE, systematic::log::refusals_at_once);
+    plan.add("log-text-refusals-at-once", &OVER_TEXT, systematic::log::text_refusals_at_once);
+    plan.add("log-state-bytes", &OVER_STATE, systematic::log_state::bytes);
+    plan.add("log-state-number-bits", &OVER_STATE, systematic::log_state::number_bits);
+    plan.add("log-state-pairs", &OVER_STATE, systematic::log_state::pairs);
+    plan.add("log-state-without-entries", &OVER_STATE, systematic::log_state::without_entries);
 }
 
 fn binding_jobs(plan: &mut Plan) {
@@ -139,7 +161,10 @@ fn comparison_jobs(plan: &mut Plan) {
 fn sequence_jobs(plan: &mut Plan, cases: u64) {
     for part in 0..(cases / 100).div_ceil(LISTS) {
         let name = format!("log-sequences/{part}");
-        plan.add(&name, &OVER_LOG, |harness, rng| (0..LISTS).for_each(|_| sequence::log::run(harness, rng)));
+        plan.add(&name, &OVER_LOG, |harness, rng| {
+            let pool = Pool::new(rng);
+            (0..LISTS).for_each(|_| sequence::log::run(harness, &pool, rng))
+        });
         for (name, way) in [("slot", Way::Calls), ("command", Way::Messages), ("mixed", Way::Both)] {
             let name = format!("{name}-sequences/{part}");
             plan.add(&name, &OVER_SLOT, move |harness, rng| {

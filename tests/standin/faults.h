@@ -1,8 +1,9 @@
 /* The faults that can be switched on in the stand-in, one at a time:
  * F(name, what is wrong, the calls whose cases must show it). */
+#define JUDGING "cerberus_log_read_out cerberus_log_read_out_verdict cerberus_log_check"
+#define OVER_STATE "cerberus_log_record cerberus_log_register " JUDGING
 #define OF_ENTRIES \
-    "cerberus_log_record cerberus_log_register cerberus_log_read_out cerberus_log_read_out_verdict cerberus_log_replay " \
-    "cerberus_log_text_verdict cerberus_log_compare"
+    "cerberus_log_record " JUDGING " cerberus_log_replay cerberus_log_text_verdict cerberus_log_compare"
 #define FAULTS(F) \
     F(EQUAL_ID, "an equal version id is taken as forward", "cerberus_slot_activate cerberus_command") \
     F(DIGEST_FIRST, "the digest is hashed before the register", OF_ENTRIES) \
@@ -13,8 +14,7 @@
     F(TWO_RESERVED, "the algorithm id stands behind two reserved bytes", OF_ENTRIES) \
     F(ALGORITHM_HIGH_FIRST, "the algorithm id's high byte stands first", OF_ENTRIES) \
     F(LEGACY_BUFFER, "a buffer for 64 entries of 87 bytes isn't 3", \
-      "cerberus_log_reset cerberus_log_record cerberus_log_register cerberus_log_read_out cerberus_log_read_out_verdict " \
-      "cerberus_log_replay") \
+      "cerberus_log_reset " OVER_STATE " cerberus_log_replay") \
     F(LEGACY_TEXT, "a text of 87 bytes an entry is 4", \
       "cerberus_log_replay cerberus_log_text_verdict cerberus_log_compare") \
     F(RECEIVED_RAISED, "a refused update raises received", "cerberus_slot_update cerberus_command") \
@@ -28,17 +28,55 @@
     F(BUFFER_FIRST, "writers give 3 before 12", \
       "cerberus_region_write cerberus_rw_region_write cerberus_signed_image_write cerberus_root_cas_write") \
     F(REFUSES_ALL, "everything is refused", \
-      "cerberus_hmac_sha256 cerberus_pairing_key cerberus_log_record cerberus_log_replay cerberus_log_text_verdict " \
-      "cerberus_log_compare cerberus_slot_activate cerberus_command cerberus_signed_image_read") \
+      "cerberus_hmac_sha256 cerberus_pairing_key cerberus_log_record cerberus_log_check cerberus_log_replay " \
+      "cerberus_log_text_verdict cerberus_log_compare cerberus_slot_activate cerberus_command " \
+      "cerberus_signed_image_read") \
     F(ONE_REGISTER, "every register reads as the same 32 bytes", "cerberus_log_register") \
     F(NOTHING_WRITTEN, "record says yes and writes nothing", "cerberus_log_record") \
     F(FIRST_ONLY, "the first entry is written, later ones only counted", "cerberus_log_record") \
     F(ANY_TEXT, "any text of a permitted length is taken", \
       "cerberus_log_replay cerberus_log_text_verdict cerberus_log_compare") \
-    F(LATER_BYTES, "bytes behind the log aren't looked at", \
-      "cerberus_log_record cerberus_log_register cerberus_log_read_out cerberus_log_read_out_verdict") \
-    F(COUNT_32_BITS, "the count is taken modulo 2^32", \
-      "cerberus_log_record cerberus_log_register cerberus_log_read_out cerberus_log_read_out_verdict") \
+    F(LATER_BYTES, "bytes behind the log aren't looked at", JUDGING) \
+    F(COUNT_32_BITS, "the count is taken modulo 2^32", OVER_STATE) \
+    F(SUM_UNCHECKED, "numbers that don't add up are taken", "cerberus_log_record cerberus_log_register") \
+    F(SUM_WRAPS_64, "the numbers are added modulo 2^64", "cerberus_log_record cerberus_log_register") \
+    F(SUM_WRAPS_8, "the numbers are added modulo 256", "cerberus_log_record cerberus_log_register") \
+    F(SUM_OF_FOUR, "the last PMR's number isn't added", OVER_STATE) \
+    F(COUNT_ABOVE_64, "a count above 64 is taken where it adds up", "cerberus_log_record cerberus_log_register") \
+    F(IDLE_REGISTER_JUDGED, "a register without entries must be zero", "cerberus_log_record cerberus_log_register") \
+    F(REGISTER_KEPT, "record leaves the register as it was", "cerberus_log_record") \
+    F(NUMBER_KEPT, "record leaves the PMR's number as it was", "cerberus_log_record") \
+    F(COUNT_KEPT, "record leaves the count as it was", "cerberus_log_record") \
+    F(OTHER_REGISTER, "record puts the register into the next PMR's place", "cerberus_log_record") \
+    F(FROM_LAST_ENTRY, "record takes the register from the PMR's last entry", "cerberus_log_record") \
+    F(FIRST_FROM_ZEROS, "a PMR's first record starts from zeros", "cerberus_log_record") \
+    F(FIRST_FREE_PLACE, "record writes where the buffer first holds no entry", "cerberus_log_record") \
+    F(RECORD_CLEARS, "record clears what stands behind its entry", "cerberus_log_record") \
+    F(RECORD_JUDGES, "record gives 4 for a damaged buffer", "cerberus_log_record") \
+    F(REFUSED_COUNTED, "a refused record raises the count", "cerberus_log_record") \
+    F(FULL_BEFORE_STATE, "7 comes before 4", "cerberus_log_record") \
+    F(RANGE_BEFORE_BUFFER, "5 comes before 3", "cerberus_log_record cerberus_log_register") \
+    F(REGISTER_JUDGES, "register read gives 4 for a damaged buffer", "cerberus_log_register") \
+    F(REGISTER_WORKED_OUT, "register read works it out from the buffer", "cerberus_log_register") \
+    F(IDLE_REGISTER_ZERO, "a register without entries reads as zeros", "cerberus_log_register") \
+    F(READ_OUT_UNCOMPARED, "read-out doesn't hold the buffer to the state", "cerberus_log_read_out") \
+    F(COMPANION_UNCOMPARED, "its companion doesn't hold the buffer to the state", "cerberus_log_read_out_verdict") \
+    F(HALF_REGISTER, "half of each register is compared", JUDGING) \
+    F(CHECK_NO_REGISTERS, "check doesn't compare the registers", "cerberus_log_check") \
+    F(CHECK_NO_NUMBERS, "check doesn't compare the numbers", "cerberus_log_check") \
+    F(CHECK_PMR0, "check compares PMR0 alone", "cerberus_log_check") \
+    F(CHECK_NO_BUFFER, "check doesn't look at the buffer", "cerberus_log_check") \
+    F(CHECK_EMPTY_REFUSED, "check refuses an empty log", "cerberus_log_check") \
+    F(CHECK_EMPTY_TAKEN, "check takes an empty log over any buffer", "cerberus_log_check") \
+    F(CHECK_CLEARS, "check clears a state that it refuses", "cerberus_log_check") \
+    F(REPLAY_FRESH_REGISTERS, "replay hands back fresh registers", "cerberus_log_replay") \
+    F(REPLAY_FRESH_NUMBERS, "replay hands back fresh numbers", "cerberus_log_replay") \
+    F(REPLAY_READS_STATE, "replay gives 4 for the state that it replaces", "cerberus_log_replay") \
+    F(REFUSED_REPLAY_KEPT, "a refused replay hands back a state", "cerberus_log_replay") \
+    F(RESET_KEEPS_REGISTERS, "reset leaves the registers", "cerberus_log_reset") \
+    F(RESET_READS_STATE, "reset gives 4 for the state that it replaces", "cerberus_log_reset") \
+    F(PAST_STATE, "eight bytes behind the state are written", \
+      "cerberus_log_reset cerberus_log_record cerberus_log_replay") \
     F(RANGE_BEFORE_STATE, "5 comes before 4", "cerberus_log_record cerberus_log_register") \
     F(TEXT_BEFORE_LENGTH, "a text whose length isn't permitted is 4", \
       "cerberus_log_replay cerberus_log_text_verdict cerberus_log_compare") \
@@ -99,7 +137,7 @@
     F(IDLE_NUMBERS, "an idle state may have a total", \
       "cerberus_slot_prepare cerberus_slot_update cerberus_slot_activate cerberus_slot_manifest cerberus_command") \
     F(STATE_BEFORE_BUFFER, "4 comes before 3", \
-      "cerberus_slot_prepare cerberus_slot_update cerberus_slot_activate cerberus_slot_manifest cerberus_command") \
+      OVER_STATE " cerberus_slot_prepare cerberus_slot_update cerberus_slot_activate cerberus_slot_manifest cerberus_command") \
     F(TOTAL_12, "a total of 12 passes", "cerberus_slot_prepare cerberus_command") \
     F(PREPARE_CLEARS, "prepare clears the pending buffer", "cerberus_slot_prepare cerberus_command") \
     F(STEP_BEFORE_LENGTH, "an empty update while idle is 6", "cerberus_slot_update cerberus_command") \

@@ -2,6 +2,8 @@
 pub mod Answers
 pub mod States
 pub mod Outcomes
+pub mod LogStates
+pub mod LogLaws
 pub mod ComparisonBytes
 pub mod Indices
 pub mod Meanings

@@ -9,6 +9,7 @@ use lib.Seq.{length-take-le}
 use lib.Dec.{eqb}
 use Rattle.refusal.proofs.Laws.{first-accepted, accepted-yes}
 use Rattle.attestation_log.specs.History.{entryLength}
+use Rattle.attestation_log.specs.State.{State}
 use Rattle.attestation_log.specs.Calls.{readOutStep}
 use Rattle.attestation_log.proofs.Answers.{read-bytes}
 use Rattle.manifest.specs.declared.Slot.{Slot}
@@ -34,9 +35,9 @@ take-again (suc n) (x ∷ l) = ap (λ (m : List ℕ). x ∷ m) (take-again n l)
 front : {part : List ℕ} (n : ℕ) (l : List ℕ) → part ≡ take n l → take (length part) l ≡ part
 front n l e = ap (λ (m : List ℕ). take (length m) l) e ∙ take-again n l ∙ sym e
 
-text : (count : ℕ) (buffer : List ℕ) → readOutStep count buffer .number ≡ 0
-    → take (length (readOutStep count buffer .bytes)) buffer ≡ readOutStep count buffer .bytes
-text count buffer e = front (entryLength * count) buffer (read-bytes count buffer (sym (read-out-check count buffer) ∙ e))
+text : (s : State) (buffer : List ℕ) → readOutStep s buffer .number ≡ 0
+    → take (length (readOutStep s buffer .bytes)) buffer ≡ readOutStep s buffer .bytes
+text s buffer e = front (entryLength * s .count) buffer (sym (read-bytes s buffer (sym (read-out-check s buffer) ∙ e)))
 
 manifest-of : (s : Slot) (pending active : List ℕ) (t : Bool) → lentNumber s pending active ≡ 0
     → let part = manifestPart s (cond t Role.Active Role.Pending) pending active in

@@ -9,6 +9,7 @@ use Rattle.refusal.specs.declared.Refusal.{Refusal}
 use Rattle.refusal.specs.Number.{refusalNumber}
 use Rattle.meaning.specs.Meaning.{meaningOf}
 use Rattle.attestation_log.specs.History.{lastPmr}
+use Rattle.attestation_log.specs.State.{State}
 use Rattle.attestation_log.specs.Calls.{readOutStep}
 use Rattle.attestation_log.specs.Texts.{textHistory}
 use Rattle.log_comparison.specs.Comparison.{compareJudgement, pmrComparison, comparisons}
@@ -45,8 +46,8 @@ pub record MeaningLaws : Type 0 where
 
 pub record PartLaws : Type 0 where
   -- "The log's text: the first *text_len bytes of buffer"
-  pub text : (count : ℕ) (buffer : List ℕ) → readOutStep count buffer .number ≡ 0
-      → take (length (readOutStep count buffer .bytes)) buffer ≡ readOutStep count buffer .bytes
+  pub text : (s : State) (buffer : List ℕ) → readOutStep s buffer .number ≡ 0
+      → take (length (readOutStep s buffer .bytes)) buffer ≡ readOutStep s buffer .bytes
   -- "The manifest of a role: the first *length bytes of active or of pending"
   pub manifest : (s : Slot) (role : ℕ) (pending active : List ℕ) → manifestNumber s role pending active ≡ 0
       → take (manifestLength s role pending active) (cond (eqb role 0) active pending) ≡ manifestPart s (roleOf role) pending active

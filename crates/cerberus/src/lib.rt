@@ -5,6 +5,7 @@ pub mod comparisons;
 pub mod digests;
 pub mod images;
 pub mod log;
+mod log_states;
 pub mod messages;
 pub mod refusals;
 pub mod regions;

@@ -1,67 +1,73 @@
-// The measurement log: its state, the number of entries, is behind a pointer where a call changes it.
+// The measurement log: its state is bytes behind a pointer.
+use crate::log_states::LOG_LEN;
+use crate::log_states::bytes_of;
+use crate::log_states::log_of;
+use attestation_log::Answer;
 use attestation_log::Log;
 use attestation_log::Pmr;
-use attestation_log::Start;
 use refusal::Verdict;
 ghost use mathlib.Core.Path.{_≡_};
-ghost use lib.ListN.{length};
+ghost use Rattle.refusal.specs.Number.{numberOf};
 ghost use Rattle.refusal.specs.Rules.{accepted_then_else_};
-ghost use Rattle.attestation_log.specs.Calls.{resetStep, recordStep, registerStep, readOutStep, readOutVerdictStep, replayStep};
+ghost use Rattle.attestation_log.specs.Calls.{resetStep, recordStep, registerStep, readOutStep, readOutVerdictStep, checkStep, replayStep};
+ghost use Rattle.cerberus.specs.LogStates.{logBytes, logOf, logAfter, valueAfter, lengthAfter};
 
-#[no_mangle]
-pub extern "C" fn cerberus_log_reset(count: &mut usize, buffer: &mut [u8]) -> u8
-    ensures number { λ r. ⌜ r ≡ resetStep (now (count .entry)) (now (buffer .entry)) .number ⌝ }
-    ensures count { λ _. ⌜ now (count .exit) ≡ resetStep (now (count .entry)) (now (buffer .entry)) .count ⌝ }
-    ensures buffer { λ _. ⌜ now (buffer .exit) ≡ resetStep (now (count .entry)) (now (buffer .entry)) .buffer ⌝ }
+// Keeps the next state of an accepted call, and answers the call's number.
+fn store(log: &mut [u8; LOG_LEN], answer: Answer) -> u8
+    ensures number { λ r. ⌜ r ≡ numberOf (answer .verdict) ⌝ }
+    ensures log { λ _. ⌜ now (log .exit) ≡ (accepted numberOf (answer .verdict) then logBytes (answer .log) else now (log .entry)) ⌝ }
 {
-    let start = Log::reset(buffer);
-    match start {
-        Start::Refused(why) => why.number(),
-        Start::Started(log) => {
-            *count = log.count;
+    let verdict = answer.verdict;
+    match verdict {
+        Verdict::Refused(why) => why.number(),
+        Verdict::Accepted => {
+            let next = answer.log;
+            *log = bytes_of(next);
             0
         }
     }
 }
 
 #[no_mangle]
+pub extern "C" fn cerberus_log_reset(log: &mut [u8; LOG_LEN], buffer: &mut [u8]) -> u8
+    ensures number { λ r. ⌜ r ≡ resetStep (logOf (now (log .entry))) (now (buffer .entry)) .number ⌝ }
+    ensures log { λ _. ⌜ now (log .exit) ≡ logAfter (resetStep (logOf (now (log .entry))) (now (buffer .entry))) (now (log .entry)) ⌝ }
+    ensures buffer { λ _. ⌜ now (buffer .exit) ≡ resetStep (logOf (now (log .entry))) (now (buffer .entry)) .buffer ⌝ }
+{
+    let answer = Log::reset(buffer);
+    store(log, answer)
+}
+
+#[no_mangle]
 pub extern "C" fn cerberus_log_record(
-    count: &mut usize,
+    log: &mut [u8; LOG_LEN],
     pmr: u8,
     event_type: u32,
     digest: &[u8; 32],
     buffer: &mut [u8],
 ) -> u8
-    ensures number { λ r. ⌜ r ≡ recordStep (record { pmr = pmr; eventType = «event_type»; digest = now (digest .entry) }) (now (count .entry)) (now (buffer .entry)) .number ⌝ }
-    ensures count { λ _. ⌜ now (count .exit) ≡ recordStep (record { pmr = pmr; eventType = «event_type»; digest = now (digest .entry) }) (now (count .entry)) (now (buffer .entry)) .count ⌝ }
-    ensures buffer { λ _. ⌜ now (buffer .exit) ≡ recordStep (record { pmr = pmr; eventType = «event_type»; digest = now (digest .entry) }) (now (count .entry)) (now (buffer .entry)) .buffer ⌝ }
+    ensures number { λ r. ⌜ r ≡ recordStep (record { pmr = pmr; eventType = «event_type»; digest = now (digest .entry) }) (logOf (now (log .entry))) (now (buffer .entry)) .number ⌝ }
+    ensures log { λ _. ⌜ now (log .exit) ≡ logAfter (recordStep (record { pmr = pmr; eventType = «event_type»; digest = now (digest .entry) }) (logOf (now (log .entry))) (now (buffer .entry))) (now (log .entry)) ⌝ }
+    ensures buffer { λ _. ⌜ now (buffer .exit) ≡ recordStep (record { pmr = pmr; eventType = «event_type»; digest = now (digest .entry) }) (logOf (now (log .entry))) (now (buffer .entry)) .buffer ⌝ }
 {
-    let log = Log { count: *count };
+    let state = *log;
     let bytes = *digest;
-    let recorded = log.record(Pmr(pmr), event_type, bytes, buffer);
-    let verdict = recorded.verdict;
-    match verdict {
-        Verdict::Refused(why) => why.number(),
-        Verdict::Accepted => {
-            let next = recorded.log;
-            *count = next.count;
-            0
-        }
-    }
+    let answer = log_of(state).record(Pmr(pmr), event_type, bytes, buffer);
+    store(log, answer)
 }
 
 #[no_mangle]
 pub extern "C" fn cerberus_log_register(
-    count: usize,
+    log: &[u8; LOG_LEN],
     pmr: u8,
     buffer: &[u8],
     value: &mut [u8; 32],
 ) -> u8
-    ensures number { λ r. ⌜ r ≡ registerStep pmr count (now (buffer .entry)) .number ⌝ }
-    ensures value { λ _. ⌜ now (value .exit) ≡ (accepted registerStep pmr count (now (buffer .entry)) .number then registerStep pmr count (now (buffer .entry)) .bytes else now (value .entry)) ⌝ }
+    ensures number { λ r. ⌜ r ≡ registerStep pmr (logOf (now (log .entry))) (now (buffer .entry)) .number ⌝ }
+    ensures value { λ _. ⌜ now (value .exit) ≡ valueAfter (registerStep pmr (logOf (now (log .entry))) (now (buffer .entry))) (now (value .entry)) ⌝ }
 {
-    let log = Log { count };
-    let read = log.register(Pmr(pmr), buffer);
+    let state = *log;
+    let read = log_of(state).register(Pmr(pmr), buffer);
     let verdict = read.verdict;
     let number = verdict.number();
     if 0 < number {
@@ -74,41 +80,48 @@ pub extern "C" fn cerberus_log_register(
 
 // The length is worked out from the count: asking read_out too would check the log twice.
 #[no_mangle]
-pub extern "C" fn cerberus_log_read_out(count: usize, buffer: &[u8], text_len: &mut usize) -> u8
-    ensures number { λ r. ⌜ r ≡ readOutStep count (now (buffer .entry)) .number ⌝ }
-    ensures length { λ _. ⌜ now («text_len» .exit) ≡ (accepted readOutStep count (now (buffer .entry)) .number then length (readOutStep count (now (buffer .entry)) .bytes) else now («text_len» .entry)) ⌝ }
+pub extern "C" fn cerberus_log_read_out(
+    log: &[u8; LOG_LEN],
+    buffer: &[u8],
+    text_len: &mut usize,
+) -> u8
+    ensures number { λ r. ⌜ r ≡ readOutStep (logOf (now (log .entry))) (now (buffer .entry)) .number ⌝ }
+    ensures length { λ _. ⌜ now («text_len» .exit) ≡ lengthAfter (readOutStep (logOf (now (log .entry))) (now (buffer .entry))) (now («text_len» .entry)) ⌝ }
 {
-    let log = Log { count };
-    let verdict = log.read_out_verdict(buffer);
+    let bytes = *log;
+    let state = log_of(bytes);
+    let verdict = state.read_out_verdict(buffer);
     match verdict {
         Verdict::Refused(why) => why.number(),
         Verdict::Accepted => {
-            *text_len = Log::ENTRY_LEN * count;
+            *text_len = Log::ENTRY_LEN * state.count;
             0
         }
     }
 }
 
 #[no_mangle]
-pub extern "C" fn cerberus_log_read_out_verdict(count: usize, buffer: &[u8]) -> u8
-    ensures { λ r. ⌜ r ≡ readOutVerdictStep count (now (buffer .entry)) .number ⌝ }
+pub extern "C" fn cerberus_log_read_out_verdict(log: &[u8; LOG_LEN], buffer: &[u8]) -> u8
+    ensures { λ r. ⌜ r ≡ readOutVerdictStep (logOf (now (log .entry))) (now (buffer .entry)) .number ⌝ }
 {
-    let log = Log { count };
-    log.read_out_verdict(buffer).number()
+    let state = *log;
+    log_of(state).read_out_verdict(buffer).number()
 }
 
 #[no_mangle]
-pub extern "C" fn cerberus_log_replay(count: &mut usize, text: &[u8], buffer: &mut [u8]) -> u8
-    ensures number { λ r. ⌜ r ≡ replayStep (now (text .entry)) (now (count .entry)) (now (buffer .entry)) .number ⌝ }
-    ensures count { λ _. ⌜ now (count .exit) ≡ replayStep (now (text .entry)) (now (count .entry)) (now (buffer .entry)) .count ⌝ }
-    ensures buffer { λ _. ⌜ now (buffer .exit) ≡ replayStep (now (text .entry)) (now (count .entry)) (now (buffer .entry)) .buffer ⌝ }
+pub extern "C" fn cerberus_log_check(log: &[u8; LOG_LEN], buffer: &[u8]) -> u8
+    ensures { λ r. ⌜ r ≡ checkStep (logOf (now (log .entry))) (now (buffer .entry)) .number ⌝ }
 {
-    let start = Log::replay(text, buffer);
-    match start {
-        Start::Refused(why) => why.number(),
-        Start::Started(log) => {
-            *count = log.count;
-            0
-        }
-    }
+    let state = *log;
+    log_of(state).check(buffer).number()
+}
+
+#[no_mangle]
+pub extern "C" fn cerberus_log_replay(log: &mut [u8; LOG_LEN], text: &[u8], buffer: &mut [u8]) -> u8
+    ensures number { λ r. ⌜ r ≡ replayStep (now (text .entry)) (logOf (now (log .entry))) (now (buffer .entry)) .number ⌝ }
+    ensures log { λ _. ⌜ now (log .exit) ≡ logAfter (replayStep (now (text .entry)) (logOf (now (log .entry))) (now (buffer .entry))) (now (log .entry)) ⌝ }
+    ensures buffer { λ _. ⌜ now (buffer .exit) ≡ replayStep (now (text .entry)) (logOf (now (log .entry))) (now (buffer .entry)) .buffer ⌝ }
+{
+    let answer = Log::replay(text, buffer);
+    store(log, answer)
 }

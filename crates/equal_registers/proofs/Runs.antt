@@ -1,4 +1,4 @@
--- The accepted records of a run are the history that its state and its buffer are of.
+-- The accepted records of a run are the history that its state is of, and its buffer where nobody else wrote it.
 use Prim.Native.Nat.{ℕ, zero, suc, _≤_}
 use mathlib.Core.Path.{_≡_, refl, sym, ap, _∙_, subst}
 use mathlib.Core.Bool.{not}
@@ -9,16 +9,16 @@ use lib.Dec.{eqb}
 use borrow.Author.Tests.{le-ltb}
 use Rattle.refusal.specs.Rules.{accepted_then_else_}
 use Rattle.refusal.proofs.Laws.{when-accepted}
-use Rattle.attestation_log.specs.History.{bufferLength, lastPmr, Event, IsHistory, foldOf, bufferOf}
-use Rattle.attestation_log.specs.Calls.{Outcome, badTextLength, registerStep}
-use Rattle.attestation_log.specs.Sequences.{Kind, reset, recordEvent, registerRead, readOut, readOutVerdict, replay, Call, AllAllowed, Observation, observe, HasText, Found, foundNumber, foundHistory, historyNumber, historyNext, historyStep, lentLength, kindOf, expectation}
-use Rattle.attestation_log.specs.Texts.{wholeHistory}
-use Rattle.attestation_log.specs.Claim.{countAfter, bufferAfter}
+use Rattle.attestation_log.specs.History.{bufferLength, lastPmr, Event, IsHistory, foldOf}
+use Rattle.attestation_log.specs.State.{State}
+use Rattle.attestation_log.specs.Texts.{badTextLength, wholeHistory}
+use Rattle.attestation_log.specs.Calls.{registerStep}
+use Rattle.attestation_log.specs.Sequences.{Kind, reset, recordEvent, registerRead, readOut, readOutVerdict, check, replay, Element, own, other, written, AllAllowed, observe, Configuration, next, after, HasText, Found, foundNumber, foundHistory, historyNumber, historyNext, historyStep, response}
 use Rattle.attestation_log.proofs.Steps.{register-follows}
 use Rattle.attestation_log.proofs.TextChecks.{text-whole}
-use Rattle.attestation_log.proofs.Records.{read-ends}
-use Rattle.attestation_log.proofs.Sequences.{find-history, response, Observed, call-observed, start-observed, Ends, ends-cons}
-use Rattle.equal_registers.specs.Runs.{Run, recordsNext, recordsFrom, recordsIn, registerAtEnd, textAtEnd}
+use Rattle.attestation_log.proofs.Records.{holds-ends, read-ends}
+use Rattle.attestation_log.proofs.Sequences.{find-history, Holds, Observed, element-observed, start-observed}
+use Rattle.equal_registers.specs.Runs.{Run, recordsNext, recordsAfter, recordsFrom, recordsIn, endOf, registerAtEnd, Untouched, textAtEnd}
 
 -- ---- one call
 
@@ -34,64 +34,80 @@ next-history (recordEvent x) h e = refl
 next-history (registerRead pmr) h e = refl
 next-history readOut h e = refl
 next-history readOutVerdict h e = refl
+next-history check h e = refl
 next-history (replay text) h e = found-history text (find-history text) (when-accepted 2 (badTextLength (length text)) _ (omega arith) e .1)
 
 accepted-same : (n : ℕ) (x y h : List Event) → (n ≡ 0 → x ≡ y) → (accepted n then x else h) ≡ (accepted n then y else h)
 accepted-same zero x y h f = f refl
 accepted-same (suc n) x y h f = refl
 
-module _ (c : Call) (count : ℕ) (buffer : List ℕ) (h : List Event) (o : Observed find-history c count buffer h) where
-  abbrev after : List Event
-  after = response find-history c h .history
+-- a call that the history answers with the same number n leaves its records
+answered : (k : Kind) (lent : ℕ) (h : List Event) (n : ℕ) → n ≡ historyStep find-history k lent h .number
+    → (accepted n then recordsNext k h else h) ≡ historyStep find-history k lent h .history
+unfolding historyStep
+answered k lent h n e =
+    ap (λ (m : ℕ). accepted m then recordsNext k h else h) e
+    ∙ accepted-same (historyStep find-history k lent h .number) (recordsNext k h) (historyNext find-history k h) h
+    (λ q. sym (next-history k h (when-accepted 3 (not (eqb lent bufferLength)) (historyNumber find-history k h) (omega arith) q .1)))
 
-  call-records : (accepted observe c count buffer .number then recordsNext (kindOf c) h else h) ≡ after
-  unfolding expectation historyStep
-  call-records =
-      ap (λ (x : Observation). accepted x .number then recordsNext (kindOf c) h else h) (o .observation)
-      ∙ accepted-same (response find-history c h .number) (recordsNext (kindOf c) h) (historyNext find-history (kindOf c) h) h
-      (λ e. sym (next-history (kindOf c) h (when-accepted 3 (not (eqb (lentLength c bufferLength) bufferLength)) (historyNumber find-history (kindOf c) h) (omega arith) e .1)))
+-- and one that leaves them, whatever it is answered with
+left-alone : (n : ℕ) (h : List Event) → (accepted n then h else h) ≡ h
+left-alone zero h = refl
+left-alone (suc n) h = refl
 
-  pub records-cons : (cs : List Call) → recordsFrom h count buffer (c ∷ cs) ≡ recordsFrom after (length after) (bufferOf after) cs
-  unfolding recordsFrom expectation
-  records-cons cs = λ i. recordsFrom (call-records i) (o .observation i .count) (o .observation i .buffer) cs
+module _ (f : Configuration) (h : List Event) where
+  abbrev number : Element → ℕ
+  number c = observe c (f .state) (f .buffer) .number
+
+  element-records : (c : Element) → Observed find-history c f h → recordsAfter c (number c) h ≡ response find-history c h .history
+  unfolding response historyStep
+  element-records (own reset) o = answered reset bufferLength h _ (o .follows .answer refl .0)
+  element-records (own (recordEvent e)) o = answered (recordEvent e) bufferLength h _ (o .follows .answer refl .0)
+  element-records (own (registerRead pmr)) o = answered (registerRead pmr) bufferLength h _ (o .follows .answer refl .0)
+  element-records (own readOut) o = left-alone (number (own readOut)) h
+  element-records (own readOutVerdict) o = left-alone (number (own readOutVerdict)) h
+  element-records (own check) o = left-alone (number (own check)) h
+  element-records (own (replay text)) o = answered (replay text) bufferLength h _ (o .follows .answer refl .0)
+  element-records (other k lent) o = answered k (length lent) h _ (o .follows .answer refl .0)
+  element-records (written b) o = refl
+
+  pub records-cons : (c : Element) → Observed find-history c f h → (cs : List Element)
+      → recordsFrom h f (c ∷ cs) ≡ recordsFrom (response find-history c h .history) (next c f) cs
+  unfolding recordsFrom
+  records-cons c o cs = ap (λ (g : List Event). recordsFrom g (next c f) cs) (element-records c o)
 
 -- ---- a run
 
-records-end : (cs : List Call) (h : List Event) → IsHistory h → AllAllowed cs
-    → Ends (countAfter (length h) (bufferOf h) cs) (bufferAfter (length h) (bufferOf h) cs) (recordsFrom h (length h) (bufferOf h) cs)
-unfolding countAfter bufferAfter recordsFrom
-records-end [] h v y = record { history = v; count = refl; buffer = refl }
-records-end (c ∷ cs) h v y =
-    let o = call-observed find-history c (y .0) h v in
-    ends-cons c cs (length h) (bufferOf h) h _ o
-    (subst (Ends _ _) (sym (records-cons c (length h) (bufferOf h) h o cs)) (records-end cs (response find-history c h .history) (o .history) (y .1)))
+records-hold : (cs : List Element) → AllAllowed cs → (f : Configuration) (h : List Event) → Holds f h → Holds (after f cs) (recordsFrom h f cs)
+unfolding after recordsFrom
+records-hold [] y f h w = w
+records-hold (c ∷ cs) y f h w =
+    let o = element-observed find-history c (y .0) f h w in
+    subst (Holds (after (next c f) cs)) (sym (records-cons f h c o cs))
+    (records-hold cs (y .1) (next c f) (response find-history c h .history) (o .holds))
 
 module _ (r : Run) where
-  abbrev calls : List Call
-  calls = r .first ∷ r .rest
-
-  run-ends : Ends (countAfter (r .count) (r .buffer) calls) (bufferAfter (r .count) (r .buffer) calls) (recordsIn r)
-  unfolding recordsIn
-  run-ends =
+  run-holds : Holds (endOf r) (recordsIn r)
+  unfolding recordsIn endOf after
+  run-holds =
       let s = r .started in
-      let o = start-observed find-history (r .count) (r .buffer) [] (r .first) (s .begins) (s .allowed .0) (s .accepted) in
-      ends-cons (r .first) (r .rest) (r .count) (r .buffer) [] _ o
-      (subst (Ends _ _) (sym (records-cons (r .first) (r .count) (r .buffer) [] o (r .rest)))
-      (records-end (r .rest) (response find-history (r .first) [] .history) (o .history) (s .allowed .1)))
+      let o = start-observed find-history (r .first) (s .begins) (s .allowed .0) (r .from) [] (s .accepted) in
+      subst (Holds (after (next (r .first) (r .from)) (r .rest))) (sym (records-cons (r .from) [] (r .first) o (r .rest)))
+      (records-hold (r .rest) (s .allowed .1) (next (r .first) (r .from)) (response find-history (r .first) [] .history) (o .holds))
 
   -- its records are a history
   pub run-history : IsHistory (recordsIn r)
-  run-history = run-ends .history
+  run-history = run-holds .history
 
-  -- the text that it reads out is theirs
-  pub run-text : HasText (textAtEnd r) (recordsIn r)
+  -- the text that it reads out is theirs, where nobody else wrote the buffer
+  pub run-text : Untouched r → HasText (textAtEnd r) (recordsIn r)
   unfolding textAtEnd
-  run-text = (run-history, sym (read-ends _ _ (recordsIn r) run-ends))
+  run-text u = (run-history, sym (read-ends (endOf r) (recordsIn r) (holds-ends (endOf r) (recordsIn r) run-holds u)))
 
-  -- and its register at the end is their fold
+  -- and its register at the end is their fold, whatever the buffer holds
   pub run-register : (p : ℕ) → p ≤ lastPmr → registerAtEnd p r ≡ foldOf p (recordsIn r)
   unfolding registerAtEnd historyStep
   run-register p low =
-      (λ i. registerStep p (run-ends .count i) (run-ends .buffer i) .bytes)
-      ∙ ap (λ (o : Outcome). o .bytes) (register-follows find-history (recordsIn r) run-history p .outcome)
+      ap (λ (s : State). registerStep p s (endOf r .buffer) .bytes) (run-holds .state)
+      ∙ register-follows find-history (recordsIn r) run-history (endOf r .buffer) (run-holds .long) p .answer refl .1
       ∙ rw (le-ltb lastPmr p low)

@@ -2,7 +2,7 @@
 use crate::show;
 use attestation_log::Log;
 use attestation_log::Pmr;
-use attestation_log::Start;
+use refusal::Verdict;
 use report::Report;
 
 // Document 01's first record, in the layout of document 02, Item 4: PMR0, event type 10, digest all zero. The measurement, SHA-256 of 64 zero bytes, is Python's
@@ -87,8 +87,12 @@ fn on_fresh_log(report: Report, log: Log, buffer: &mut [u8]) -> Report {
 pub(crate) fn run(report: Report) -> Report {
     let mut buffer = [0xffu8; Log::BUFFER_LEN];
     let start = Log::reset(&mut buffer);
-    match start {
-        Start::Refused(_) => show(report, b"a reset of 5,696 bytes is accepted", false),
-        Start::Started(log) => on_fresh_log(report, log, &mut buffer),
+    let verdict = start.verdict;
+    match verdict {
+        Verdict::Refused(_) => show(report, b"a reset of 5,696 bytes is accepted", false),
+        Verdict::Accepted => {
+            let log = start.log;
+            on_fresh_log(report, log, &mut buffer)
+        }
     }
 }

@@ -1,5 +1,7 @@
-// Runs document 01's "Examples at the edges" that are not marked P, and says of each whether it came out as written there. Those marked P are the table in specs/.
+// Runs document 01's "Examples at the edges" that are not marked P, and what document 02, Item 2, says of a buffer that somebody else wrote; says of each
+// whether it came out as written there. Those marked P are the table in specs/.
 mod elements_examples;
+mod kept_registers;
 mod log_examples;
 mod slot_examples;
 
@@ -18,5 +20,6 @@ pub(crate) fn show(report: Report, example: &[u8], as_written: bool) -> Report {
 fn main() {
     let r1 = elements_examples::run(Report::new());
     let r2 = log_examples::run(r1);
-    slot_examples::run(r2).end();
+    let r3 = kept_registers::run(r2);
+    slot_examples::run(r3).end();
 }

@@ -54,10 +54,7 @@ fn change(records: &mut Vec<Record>, rng: &mut Rng) {
     }
     let (at, other) = (rng.below(len), rng.below(len));
     match rng.below(11) {
-        0..2 => {
-            let byte = rng.below(32);
-            damage(&mut records[at].digest, byte, rng);
-        }
+        0..2 => damage(&mut records[at].digest, rng.below(32), rng),
         2 => records[at].digest = records[other].digest,
         3 => exchange_within_pmr(records, at),
         4 => records.swap(at, other),
@@ -71,6 +68,29 @@ fn change(records: &mut Vec<Record>, rng: &mut Rng) {
     }
 }
 
+/// A log with the same digests for each PMR: its event types are others, and so is the order between PMRs.
+pub fn alike(book: &Book, rng: &mut Rng) -> Book {
+    let mut records = book.records().to_vec();
+    records.iter_mut().for_each(|record| record.event_type = word(rng));
+    regroup(&mut records, rng);
+    of_records(&records)
+}
+
+/// A log with as many entries of each PMR, of which one digest is another or two are exchanged, as a rule.
+pub fn other_digests(book: &Book, rng: &mut Rng) -> Book {
+    let mut records = book.records().to_vec();
+    if records.is_empty() {
+        return Book::empty();
+    }
+    let at = rng.below(records.len());
+    if rng.chance(70) {
+        damage(&mut records[at].digest, rng.below(32), rng);
+    } else {
+        exchange_within_pmr(&mut records, at);
+    }
+    of_records(&records)
+}
+
 /// Exchanges a record with the next one of its PMR, if there is one.
 fn exchange_within_pmr(records: &mut [Record], at: usize) {
     let pmr = records[at].pmr;
@@ -80,7 +100,7 @@ fn exchange_within_pmr(records: &mut [Record], at: usize) {
 }
 
 /// Another order between PMRs; within each the records stay in theirs.
-pub fn regroup(records: &mut [Record], rng: &mut Rng) {
+fn regroup(records: &mut [Record], rng: &mut Rng) {
     let order: [u64; 5] = std::array::from_fn(|_| rng.next());
     records.sort_by_key(|record| order[usize::from(record.pmr)]);
 }

@@ -1,8 +1,11 @@
 //! Logs: sound ones, damaged ones, and ones that a writer with one wrong rule, or of the legacy form, would leave.
 
+use super::comparison::{alike, other_digests};
+use super::log_state::{other_state, unread};
 use super::{absurd_len, damage, size, word, wrong_len};
 use crate::calls::{Call, Case};
-use crate::model::log::{BUFFER_LEN, Book, CAPACITY, ENTRY_LEN, Record};
+use crate::ffi::log_bytes;
+use crate::model::log::{BUFFER_LEN, Book, CAPACITY, ENTRY_LEN, Pmr, Record, State};
 use crate::model::sha256::sha256;
 use crate::rng::Rng;
 
@@ -59,36 +62,40 @@ impl Pool {
 
 pub fn reset(rng: &mut Rng) -> Case {
     let len = if rng.chance(60) { BUFFER_LEN } else { wrong_len(BUFFER_LEN, rng) };
-    let case = Case::new(Call::LogReset, &[], vec![size(rng), rng.filling(len)]);
+    let case = of_reset(rng.filling(len), rng);
     if rng.chance(2) { case.claiming(1, absurd_len(BUFFER_LEN, rng), 3) } else { case }
 }
 
-/// A case of one of the four calls that take a state.
+pub fn of_reset(buffer: Vec<u8>, rng: &mut Rng) -> Case {
+    Case::new(Call::LogReset, &[], vec![unread(rng), buffer])
+}
+
+/// A case of one of the five calls that read a state.
 pub fn over_state(call: Call, pool: &Pool, rng: &mut Rng) -> Case {
-    let (count, mut buffer) = state(pool, rng);
+    let (state, mut buffer) = state_and_buffer(pool, rng);
     if rng.chance(8) {
         buffer.resize(wrong_len(BUFFER_LEN, rng), 0);
     }
-    let case = of_state(call, count, pmr(rng), buffer, rng);
+    let case = of_state(call, &state, pmr(rng), buffer, rng);
     if rng.chance(2) { case.claiming(buffer_place(call), absurd_len(BUFFER_LEN, rng), 3) } else { case }
 }
 
-/// Which of a call's lent memories the log's buffer is.
-fn buffer_place(call: Call) -> usize {
-    if call == Call::LogRecord { 2 } else { 0 }
+/// Which of a call's lent memories the log's buffer is. The state is the first.
+pub fn buffer_place(call: Call) -> usize {
+    if matches!(call, Call::LogRecord | Call::LogReplay) { 2 } else { 1 }
 }
 
-pub fn of_state(call: Call, count: u64, pmr: u8, buffer: Vec<u8>, rng: &mut Rng) -> Case {
-    let pmr = u64::from(pmr);
+pub fn of_state(call: Call, state: &State, pmr: u8, buffer: Vec<u8>, rng: &mut Rng) -> Case {
+    let (state, pmr) = (log_bytes(state), u64::from(pmr));
     match call {
         Call::LogRecord => {
             let record = record(rng);
-            let lent = vec![count.to_ne_bytes().to_vec(), record.digest.to_vec(), buffer];
+            let lent = vec![state, record.digest.to_vec(), buffer];
             Case::new(call, &[pmr, u64::from(record.event_type)], lent)
         }
-        Call::LogRegister => Case::new(call, &[count, pmr], vec![buffer, rng.bytes(32)]),
-        Call::LogReadOut => Case::new(call, &[count], vec![buffer, size(rng)]),
-        Call::LogReadOutVerdict => Case::new(call, &[count], vec![buffer]),
+        Call::LogRegister => Case::new(call, &[pmr], vec![state, buffer, rng.bytes(32)]),
+        Call::LogReadOut => Case::new(call, &[], vec![state, buffer, size(rng)]),
+        Call::LogReadOutVerdict | Call::LogCheck => Case::new(call, &[], vec![state, buffer]),
         _ => unreachable!("not a call over a log's state"),
     }
 }
@@ -102,25 +109,39 @@ pub fn pmr(rng: &mut Rng) -> u8 {
     }
 }
 
-/// A count and a buffer of the right length, sound in half of the cases.
-fn state(pool: &Pool, rng: &mut Rng) -> (u64, Vec<u8>) {
+/// A state and a buffer of the right length, which go together in about half of the cases.
+fn state_and_buffer(pool: &Pool, rng: &mut Rng) -> (State, Vec<u8>) {
     let book = pool.pick(rng);
-    let count = book.records().len() as u64;
     match rng.below(20) {
-        0..10 => (count, book.buffer()),
-        10..13 => (count, damaged_within(book, rng)),
-        13 => (count, damaged_behind(book, rng)),
-        14..16 => (other_count(count, rng), book.buffer()),
-        16..19 => of_text(unsound_text(book, rng)),
-        _ => (count, rng.filling(BUFFER_LEN)),
+        0..8 => (book.state(), book.buffer()),
+        8..13 => (book.state(), other_buffer(book, pool, rng)),
+        13..17 => (other_state(book, pool, rng), book.buffer()),
+        17 => (other_state(book, pool, rng), other_buffer(book, pool, rng)),
+        _ => {
+            let (text, state) = written_by(&WRITERS[rng.below(WRITERS.len())], book.records());
+            (state, in_buffer(text))
+        }
     }
 }
 
-/// The count and buffer that go with a text.
-fn of_text(mut text: Vec<u8>) -> (u64, Vec<u8>) {
-    let count = (text.len() / ENTRY_LEN) as u64;
+/// A buffer of the right length that isn't this log's, as a rule. Where it is that of a log with the same registers and
+/// numbers, it goes with the state all the same.
+pub fn other_buffer(book: &Book, pool: &Pool, rng: &mut Rng) -> Vec<u8> {
+    match rng.below(14) {
+        0..4 => damaged_within(book, rng),
+        4..6 => damaged_behind(book, rng),
+        6..9 => in_buffer(unsound_text(book, rng)),
+        9 => rng.filling(BUFFER_LEN),
+        10 => pool.pick(rng).buffer(),
+        11..13 => other_digests(book, rng).buffer(),
+        _ => alike(book, rng).buffer(),
+    }
+}
+
+/// A text and then zeros.
+fn in_buffer(mut text: Vec<u8>) -> Vec<u8> {
     text.resize(BUFFER_LEN, 0);
-    (count, text)
+    text
 }
 
 fn damaged_within(book: &Book, rng: &mut Rng) -> Vec<u8> {
@@ -142,35 +163,6 @@ fn damaged_behind(book: &Book, rng: &mut Rng) -> Vec<u8> {
     buffer
 }
 
-/// The inverse of an entry's length modulo 2^64: the length times a multiple of it wraps to a small number.
-const INVERSE: u64 = {
-    let mut inverse: u64 = 1;
-    let mut step = 0;
-    while step < 6 {
-        inverse = inverse.wrapping_mul(2u64.wrapping_sub((ENTRY_LEN as u64).wrapping_mul(inverse)));
-        step += 1;
-    }
-    inverse
-};
-
-/// A count that is not the log's own: one off, at the limit, or where an entry's length times it overflows.
-pub fn other_count(count: u64, rng: &mut Rng) -> u64 {
-    let wrapping = INVERSE.wrapping_mul(rng.below(BUFFER_LEN + 1) as u64);
-    let near = [count.wrapping_sub(1), count + 1, 63, 64, 65, 66];
-    let far = [
-        (1 << 8) + count,
-        (1 << 16) + count,
-        (1 << 32) + count,
-        (1 << 63) + count,
-        u64::MAX,
-        u64::MAX - 63,
-        u64::MAX / ENTRY_LEN as u64,
-        u64::MAX / ENTRY_LEN as u64 + 1,
-        wrapping,
-    ];
-    if rng.chance(60) { rng.pick(&near) } else { rng.pick(&far) }
-}
-
 /// A case of replay.
 pub fn replay(pool: &Pool, rng: &mut Rng) -> Case {
     let text = text(pool, rng);
@@ -185,7 +177,7 @@ pub fn replay(pool: &Pool, rng: &mut Rng) -> Case {
 }
 
 pub fn of_replay(text: Vec<u8>, buffer: Vec<u8>, rng: &mut Rng) -> Case {
-    Case::new(Call::LogReplay, &[], vec![size(rng), text, buffer])
+    Case::new(Call::LogReplay, &[], vec![unread(rng), text, buffer])
 }
 
 /// A case of the call that judges a text.
@@ -273,7 +265,7 @@ const LEGACY: Rules =
 
 /// A log of so many entries in that form.
 pub fn legacy_text(entries: usize, rng: &mut Rng) -> Vec<u8> {
-    written_by(&LEGACY, book(entries, rng).records())
+    written_by(&LEGACY, book(entries, rng).records()).0
 }
 
 /// The right writer, and writers with one wrong rule each or of the legacy form.
@@ -301,31 +293,30 @@ const WRITERS: [Rules; 20] = [
     Rules { pmr_shift: 4, ..RIGHT },
 ];
 
-/// The text that a writer with these rules leaves for the records.
-fn written_by(rules: &Rules, records: &[Record]) -> Vec<u8> {
-    let mut registers = [[rules.first_register; 32]; 16];
-    let mut indices = [rules.first_index; 16];
+/// The text that a writer with these rules leaves for the records, and its state.
+fn written_by(rules: &Rules, records: &[Record]) -> (Vec<u8>, State) {
+    let mut pmrs = [Pmr { register: [rules.first_register; 32], entries: 0 }; 16];
     let mut text = Vec::new();
     for (id, record) in records.iter().enumerate() {
         let pmr = record.pmr + rules.pmr_shift;
         let register = if rules.one_register { 0 } else { usize::from(pmr) };
-        let old = registers[register];
+        let old = pmrs[register].register;
         let joined = if rules.digest_first { [record.digest, old] } else { [old, record.digest] };
-        registers[register] = sha256(&joined.concat());
-        let measurement = if rules.measurement_is_old_register { old } else { registers[register] };
-        let index = if rules.index_over_whole_log { id as u8 } else { indices[usize::from(pmr)] };
-        indices[usize::from(pmr)] += 1;
+        pmrs[register].register = sha256(&joined.concat());
+        let measurement = if rules.measurement_is_old_register { old } else { pmrs[register].register };
+        let index = if rules.index_over_whole_log { id as u64 } else { pmrs[usize::from(pmr)].entries };
+        pmrs[usize::from(pmr)].entries += 1;
         text.push(rules.marker);
         text.extend(rules.entry_len.to_le_bytes());
         text.extend(number(rules, id as u32 + rules.first_id));
         text.extend(record.event_type.to_le_bytes());
-        text.extend([index, pmr, 0, 0, rules.digest_count]);
+        text.extend([index as u8 + rules.first_index, pmr, 0, 0, rules.digest_count]);
         text.extend(rules.reserved_and_algorithm);
         text.extend(record.digest);
         text.extend(number(rules, rules.size));
         text.extend(measurement);
     }
-    text
+    (text, State { count: records.len() as u64, pmrs: std::array::from_fn(|pmr| pmrs[pmr]) })
 }
 
 fn number(rules: &Rules, number: u32) -> [u8; 4] {
@@ -336,7 +327,7 @@ fn number(rules: &Rules, number: u32) -> [u8; 4] {
 fn unsound_text(book: &Book, rng: &mut Rng) -> Vec<u8> {
     if rng.chance(50) {
         let rules = WRITERS[rng.below(WRITERS.len())];
-        return written_by(&rules, book.records());
+        return written_by(&rules, book.records()).0;
     }
     let mut entries: Vec<&[u8]> = book.text().chunks_exact(ENTRY_LEN).collect();
     let (a, b) = (rng.below(entries.len().max(1)), rng.below(entries.len().max(1)));

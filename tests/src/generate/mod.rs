@@ -5,6 +5,7 @@ pub mod comparison;
 pub mod element;
 pub mod hmac;
 pub mod log;
+pub mod log_state;
 pub mod message;
 pub mod pairing;
 pub mod sha256;
@@ -29,6 +30,7 @@ impl Generator {
                 | Call::LogRegister
                 | Call::LogReadOut
                 | Call::LogReadOutVerdict
+                | Call::LogCheck
                 | Call::LogReplay
                 | Call::LogTextVerdict
                 | Call::LogCompare

@@ -1,4 +1,4 @@
-//! Document 01 and document 02, Items 13 and 14, in plain Rust, written from the papers and standards
+//! Document 01 and document 02, Items 2, 4, 13 and 14, in plain Rust, written from the papers and standards
 //! alone. It is slow and plain on purpose: what it does should be seen at once to be what the paper says.
 
 pub mod certificate_slots;

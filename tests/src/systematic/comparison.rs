@@ -1,7 +1,7 @@
 //! Two recorded logs compared.
 
 use super::broken;
-use crate::generate::comparison::{of_texts, regroup};
+use crate::generate::comparison::{alike, of_texts};
 use crate::generate::log::{book, of_records, record};
 use crate::generate::{absurd_len, damage};
 use crate::harness::Harness;
@@ -17,14 +17,6 @@ fn run_both(harness: &mut Harness, one: &[u8], other: &[u8], rng: &mut Rng) {
 
 fn run_records(harness: &mut Harness, one: &Book, other: &[Record], rng: &mut Rng) {
     run_both(harness, one.text(), of_records(other).text(), rng);
-}
-
-/// A log with the same digests for each PMR: its event types are others, and so is the order between PMRs.
-fn alike(book: &Book, rng: &mut Rng) -> Book {
-    let mut records: Vec<Record> =
-        book.records().iter().map(|shown| Record { event_type: record(rng).event_type, ..*shown }).collect();
-    regroup(&mut records, rng);
-    of_records(&records)
 }
 
 /// One byte damaged, at every position of one text of a pair that agrees.

@@ -1,20 +1,27 @@
-//! The measurement log.
+//! The measurement log: its buffer, its texts, and every set of broken rules.
 
 use super::broken;
-use crate::calls::{Call, Case};
-use crate::generate::log::{book, legacy_text, of_replay, of_state, of_text_verdict, other_count};
-use crate::generate::{damage, size};
+use crate::calls::Call;
+use crate::generate::comparison::alike;
+use crate::generate::damage;
+use crate::generate::log::{book, legacy_text, of_records, of_replay, of_reset, of_state, of_text_verdict};
+use crate::generate::log_state::{break_sum, exceed, other_count, set_total};
 use crate::harness::Harness;
-use crate::model::log::{BUFFER_LEN, Book, CAPACITY, ENTRY_LEN};
+use crate::model::log::{BUFFER_LEN, Book, CAPACITY, ENTRY_LEN, PMRS, State};
 use crate::rng::Rng;
 
-const OVER_STATE: [Call; 4] = [Call::LogRecord, Call::LogRegister, Call::LogReadOut, Call::LogReadOutVerdict];
+/// The calls that go by the state alone, whatever the buffer holds, and those that hold the buffer to it.
+pub const BY_STATE: [Call; 2] = [Call::LogRecord, Call::LogRegister];
+pub const JUDGING: [Call; 3] = [Call::LogReadOut, Call::LogReadOutVerdict, Call::LogCheck];
+pub const OVER_STATE: [Call; 5] =
+    [Call::LogRecord, Call::LogRegister, Call::LogReadOut, Call::LogReadOutVerdict, Call::LogCheck];
+pub const OVER_TEXT: [Call; 2] = [Call::LogReplay, Call::LogTextVerdict];
 
-/// All calls that take a state on one state.
-fn run_all(harness: &mut Harness, count: usize, buffer: &[u8], rng: &mut Rng) {
-    for call in OVER_STATE {
-        let pmr = rng.below(5) as u8;
-        harness.run(of_state(call, count as u64, pmr, buffer.to_vec(), rng));
+/// These calls on one state and buffer.
+pub fn run_calls(harness: &mut Harness, calls: &[Call], state: &State, buffer: &[u8], rng: &mut Rng) {
+    for &call in calls {
+        let pmr = rng.below(PMRS) as u8;
+        harness.run(of_state(call, state, pmr, buffer.to_vec(), rng));
     }
 }
 
@@ -26,31 +33,40 @@ fn run_text(harness: &mut Harness, text: &[u8], rng: &mut Rng) {
 }
 
 /// One byte damaged, at every position of the buffer.
-pub fn damaged(harness: &mut Harness, entries: usize, rng: &mut Rng) {
+pub fn damaged(harness: &mut Harness, calls: &[Call], entries: usize, rng: &mut Rng) {
     let book = book(entries, rng);
     for at in 0..BUFFER_LEN {
         let mut buffer = book.buffer();
         damage(&mut buffer, at, rng);
-        run_all(harness, entries, &buffer, rng);
-        if at < book.text().len() {
-            run_text(harness, &buffer[..book.text().len()], rng);
-        }
+        run_calls(harness, calls, &book.state(), &buffer, rng);
     }
 }
 
-/// Sound logs of every size, with counts that are and are not theirs.
+/// One byte damaged, at every position of the text.
+pub fn damaged_texts(harness: &mut Harness, entries: usize, rng: &mut Rng) {
+    let book = book(entries, rng);
+    for at in 0..book.text().len() {
+        let mut text = book.text().to_vec();
+        damage(&mut text, at, rng);
+        run_text(harness, &text, rng);
+    }
+}
+
+/// Sound logs of every size, with counts that are and are not theirs; the numbers add up to these, or stay.
 pub fn sizes(harness: &mut Harness, rng: &mut Rng) {
     for entries in 0..=CAPACITY {
         let book = book(entries, rng);
-        run_all(harness, entries, &book.buffer(), rng);
+        run_calls(harness, &OVER_STATE, &book.state(), &book.buffer(), rng);
         run_text(harness, book.text(), rng);
-        for count in 0..=70 {
-            let call = rng.pick(&OVER_STATE);
-            harness.run(of_state(call, count, 0, book.buffer(), rng));
-        }
-        for _ in 0..40 {
-            let (call, count) = (rng.pick(&OVER_STATE), other_count(entries as u64, rng));
-            harness.run(of_state(call, count, 0, book.buffer(), rng));
+        let far: Vec<u64> = (0..40).map(|_| other_count(entries as u64, rng)).collect();
+        for count in (0..=70).chain(far) {
+            let mut state = book.state();
+            if rng.chance(50) {
+                set_total(&mut state, count, rng.below(PMRS));
+            } else {
+                state.count = count;
+            }
+            run_calls(harness, &[rng.pick(&BY_STATE), rng.pick(&JUDGING)], &state, &book.buffer(), rng);
         }
     }
 }
@@ -59,16 +75,14 @@ pub fn sizes(harness: &mut Harness, rng: &mut Rng) {
 pub fn pmrs(harness: &mut Harness, rng: &mut Rng) {
     for entries in [0, 1, 7, 63, 64] {
         let book = book(entries, rng);
-        for pmr in 0..=255 {
-            for call in [Call::LogRecord, Call::LogRegister] {
-                harness.run(of_state(call, entries as u64, pmr, book.buffer(), rng));
-            }
+        for (pmr, call) in (0..=255).flat_map(|pmr| BY_STATE.map(|call| (pmr, call))) {
+            harness.run(of_state(call, &book.state(), pmr, book.buffer(), rng));
         }
     }
 }
 
-/// Every PMR number within entries. In the first entry of its PMR it may be another's that has
-/// none yet: the register starts as zeros for each, so that some run of records writes this too.
+/// Every PMR number within entries. In the first entry of its PMR it may be another's that has none yet: the register
+/// starts as zeros for each, so that some run of records writes this too, though not the one that the state is of.
 pub fn pmr_bytes(harness: &mut Harness, rng: &mut Rng) {
     for entries in [1, 2, 5] {
         for _ in 0..5 {
@@ -76,10 +90,30 @@ pub fn pmr_bytes(harness: &mut Harness, rng: &mut Rng) {
             for (entry, pmr) in (0..entries).flat_map(|entry| (0..=255).map(move |pmr| (entry, pmr))) {
                 let mut buffer = book.buffer();
                 buffer[entry * ENTRY_LEN + 12] = pmr;
-                run_all(harness, entries, &buffer, rng);
-                run_text(harness, &buffer[..entries * ENTRY_LEN], rng);
+                let text = &buffer[..entries * ENTRY_LEN];
+                run_text(harness, text, rng);
+                run_calls(harness, &OVER_STATE, &book.state(), &buffer, rng);
+                if let Ok(other) = Book::of_text(text) {
+                    run_calls(harness, &JUDGING, &other.state(), &buffer, rng);
+                }
             }
         }
+    }
+}
+
+/// Sound buffers of other runs with as many entries of each PMR: at every place another digest, which a register shows,
+/// or another event type, which none does; and all event types and the order between PMRs changed at once.
+pub fn other_runs(harness: &mut Harness, rng: &mut Rng) {
+    for entries in [1, 12, CAPACITY] {
+        let book = book(entries, rng);
+        for at in 0..entries {
+            let mut records = book.records().to_vec();
+            records[at].event_type ^= 1 << rng.below(32);
+            run_calls(harness, &OVER_STATE, &book.state(), &of_records(&records).buffer(), rng);
+            records[at].digest[rng.below(32)] ^= 1 << rng.below(8);
+            run_calls(harness, &OVER_STATE, &book.state(), &of_records(&records).buffer(), rng);
+        }
+        run_calls(harness, &OVER_STATE, &book.state(), &alike(&book, rng).buffer(), rng);
     }
 }
 
@@ -89,10 +123,10 @@ pub fn buffer_lengths(harness: &mut Harness, rng: &mut Rng) {
     for len in 0..BUFFER_LEN + 100 {
         let mut buffer = book.buffer();
         buffer.resize(len, 0);
-        harness.run(Case::new(Call::LogReset, &[], vec![size(rng), rng.bytes(len)]));
+        let held = rng.bytes(len);
+        harness.run(of_reset(held, rng));
         harness.run(of_replay(book.text().to_vec(), buffer.clone(), rng));
-        let call = rng.pick(&OVER_STATE);
-        harness.run(of_state(call, 3, 0, buffer, rng));
+        run_calls(harness, &[rng.pick(&BY_STATE), rng.pick(&JUDGING)], &book.state(), &buffer, rng);
     }
 }
 
@@ -117,50 +151,68 @@ pub fn legacy_texts(harness: &mut Harness, rng: &mut Rng) {
     run_text(harness, &behind, rng);
 }
 
-/// Every set of broken rules of each call.
+/// Every set of broken rules of the calls that read a state.
 pub fn refusals_at_once(harness: &mut Harness, rng: &mut Rng) {
-    for set in 0..32 {
-        for _ in 0..20 {
+    for set in 0..128 {
+        for _ in 0..8 {
             let entries = if broken(set, 0) { CAPACITY } else { rng.below(CAPACITY) };
             let book = book(entries, rng);
-            over_state(harness, set, &book, rng);
-            replay(harness, set, &book, rng);
+            for call in OVER_STATE {
+                let pmr = if broken(set, 1) { 5 + rng.byte() % 251 } else { rng.below(PMRS) as u8 };
+                let (state, buffer) = (broken_state(set, &book, rng), broken_buffer(set, &book, rng));
+                harness.run(of_state(call, &state, pmr, buffer, rng));
+            }
         }
     }
 }
 
-fn over_state(harness: &mut Harness, set: u32, book: &Book, rng: &mut Rng) {
-    for call in OVER_STATE {
-        let mut buffer = book.buffer();
-        let mut count = book.records().len() as u64;
-        let pmr = if broken(set, 1) { 5 + rng.byte() % 251 } else { rng.below(5) as u8 };
-        if broken(set, 2) {
-            let at = rng.below(BUFFER_LEN);
-            damage(&mut buffer, at, rng);
+fn broken_state(set: u32, book: &Book, rng: &mut Rng) -> State {
+    let mut state = book.state();
+    if broken(set, 2) {
+        damage(&mut state.pmrs[rng.below(PMRS)].register, rng.below(32), rng);
+    }
+    if broken(set, 3) {
+        exceed(&mut state, rng);
+    }
+    if broken(set, 4) {
+        break_sum(&mut state, rng);
+    }
+    state
+}
+
+fn broken_buffer(set: u32, book: &Book, rng: &mut Rng) -> Vec<u8> {
+    let mut buffer = book.buffer();
+    if broken(set, 5) {
+        damage(&mut buffer, rng.below(BUFFER_LEN), rng);
+    }
+    if broken(set, 6) {
+        buffer.resize(rng.pick(&[0, BUFFER_LEN - 1, BUFFER_LEN + 1]), 0);
+    }
+    buffer
+}
+
+/// Every set of broken rules of the calls that judge a text.
+pub fn text_refusals_at_once(harness: &mut Harness, rng: &mut Rng) {
+    for set in 0..16 {
+        for _ in 0..20 {
+            let entries = rng.below(CAPACITY + 1);
+            replay(harness, set, &book(entries, rng), rng);
         }
-        if broken(set, 3) {
-            count = other_count(count, rng);
-        }
-        if broken(set, 4) {
-            buffer.resize(rng.pick(&[0, BUFFER_LEN - 1, BUFFER_LEN + 1]), 0);
-        }
-        harness.run(of_state(call, count, pmr, buffer, rng));
     }
 }
 
 fn replay(harness: &mut Harness, set: u32, book: &Book, rng: &mut Rng) {
     let mut text = book.text().to_vec();
-    if broken(set, 1) && !text.is_empty() {
-        let at = rng.below(text.len());
-        damage(&mut text, at, rng);
+    if broken(set, 0) && !text.is_empty() {
+        damage(&mut text, rng.below(book.text().len()), rng);
     }
-    if broken(set, 2) {
+    if broken(set, 1) {
         text.push(0);
     }
-    if broken(set, 3) {
+    if broken(set, 2) {
         text.resize(BUFFER_LEN + ENTRY_LEN, 0);
     }
-    let len = if broken(set, 4) { rng.pick(&[0, BUFFER_LEN - 1, BUFFER_LEN + 1]) } else { BUFFER_LEN };
+    let len = if broken(set, 3) { rng.pick(&[0, BUFFER_LEN - 1, BUFFER_LEN + 1]) } else { BUFFER_LEN };
     let held = rng.filling(len);
     harness.run(of_text_verdict(text.clone()));
     harness.run(of_replay(text, held, rng));

@@ -5,6 +5,7 @@ pub mod comparison;
 pub mod element;
 pub mod hmac;
 pub mod log;
+pub mod log_state;
 pub mod message;
 pub mod pairing;
 pub mod slot;

@@ -1,24 +1,17 @@
-use mathlib.Core.Path.{sym, ap, _∙_}
 use borrow.Author.Needs.{needs}
 use denote.Ref.{now}
-use Rattle.attestation_log.specs.Calls.{Outcome}
-use Rattle.attestation_log.specs.Answers.{startOutcome}
-use Rattle.attestation_log.specs.declared.Start.{Start}
+use Rattle.attestation_log.specs.Calls.{resetNumber, resetStep}
+use Rattle.attestation_log.proofs.Steps.{resetDone}
+use Rattle.cerberus.specs.LogStates.{logOf}
+use Rattle.cerberus.proofs.LogStates.{started}
 use Rattle.cerberus.proofs.log.cerberus_log_reset.Statement.{statement}
 use Rattle.cerberus.proofs.log.cerberus_log_reset.Tie as tie
 
 returns : tie.Need-returns
+unfolding resetStep
 returns c =
-    let n = now (c .before .before .before .before .before .before .before .before .before .args .count) in
-    let e = ap (λ (s : Start). startOutcome s n (c .before .before .before .before .before .before .reset .last .0)) (sym (c .before .before .start .given .1)) ∙ c .before .before .before .before .before .before .reset .ensures n in
-    (c .number .ensures ∙ ap (λ (o : Outcome). o .number) e, (ap (λ (o : Outcome). o .count) e, ap (λ (o : Outcome). o .buffer) e))
-
-returns-2 : tie.Need-returns-2
-returns-2 c =
-    let n = now (c .before .before .before .before .before .before .before .before .args .count) in
-    let e = ap (λ (s : Start). startOutcome s n (c .before .before .before .before .before .reset .last .0)) (sym (c .before .start2 .given .1)) ∙ c .before .before .before .before .before .reset .ensures n in
-    (ap (λ (o : Outcome). o .number) e, (ap (λ (o : Outcome). o .count) e, ap (λ (o : Outcome). o .buffer) e))
+    let a = c .before .before .before .before .before .before .before .args in
+    started (resetNumber (now (a .buffer))) (logOf (now (a .log))) (now (a .buffer)) resetDone (c .before .before .before .before .reset .result) _ (now (a .log)) (c .before .before .before .before .reset .ensures) (c .store .ensures .0) (c .store .ensures .1)
 
 pub cerberus-log-reset-spec : {M : Type 1} → statement M
-cerberus-log-reset-spec = tie.close
-    (tie.spec (λ c κs. search needs) (λ c. search needs) (λ c κs. search needs) (λ c. search needs) (λ c. search needs) returns (λ c. search needs) returns-2)
+cerberus-log-reset-spec = tie.close (tie.spec (λ c κs. search needs) (λ c κs. search needs) (λ c. search needs) returns)
