@@ -117,15 +117,16 @@ uint8_t cerberus_certificate_slots(uint8_t mask, uint8_t *count, uint8_t *lowest
  * the entries: the calls keep their names, but take a pointer to a cerberus_log.
  * Change every caller and compile it again. One that still lends its size_t has
  * 208 bytes written over its 8; a C compiler may only warn of it, and a linker
- * sees nothing. Where a log is to live on and its count is at
- * most 64 (any other was refused with 4 before), copy the first 89 times count
- * bytes of its buffer elsewhere and replay that copy into the buffer:
- * cerberus_log_replay works the registers out and makes the state, or refuses
- * with 4 entries that no run of records writes. It clears what stood behind the
- * entries; a byte there that wasn't zero was 4 before, so look first where that
- * matters. Setting count alone makes no state: its PMRs' numbers don't add up to
- * it. Record and register read no longer look at what the buffer holds: a caller
- * that relied on their 4 for a damaged buffer asks cerberus_log_check. */
+ * sees nothing.
+ * Where a log is to live on and its count is at most 64 (any other was refused
+ * with 4 before), copy the first 89 times count bytes of its buffer elsewhere and
+ * replay that copy into the buffer: cerberus_log_replay works the registers out
+ * and makes the state, or refuses with 4 entries that no run of records writes.
+ * It clears what stood behind the entries; a byte there that wasn't zero was 4
+ * before, so look first where that matters. Setting count alone makes no state:
+ * its PMRs' numbers don't add up to it.
+ * Record and register read no longer look at what the buffer holds: a caller that
+ * relied on their 4 for a damaged buffer asks cerberus_log_check. */
 
 #define CERBERUS_LOG_ENTRY_LEN 89
 #define CERBERUS_LOG_CAPACITY 64
