@@ -1,4 +1,4 @@
-// The public calls for C, as include/cerberus.h declares them: plain numbers and byte slices, states as integers behind pointers, the number as the
+// The public calls for C, as include/cerberus.h declares them: plain numbers and byte slices, states as integers or bytes behind pointers, the number as the
 // result. Each takes its arguments apart and makes the one call that it stands for.
 pub mod binding;
 pub mod comparisons;
