@@ -8,8 +8,9 @@ use lib.ListN.{length, take, drop, replicate, length-append, length-drop}
 use lib.Seq.{take-all, take-append-le, drop-append-le, drop-append-add}
 use Rattle.fips180.specs.Family.{Family, blockBytes, lengthBytes}
 use Rattle.fips180.specs.Padding.{bigEndian, zeroCount, pad, block}
-use Rattle.fips180.specs.Hash.{compress, hashValue, hash}
+use Rattle.fips180.specs.Hash.{compress, hashValue, hash, wordBytesOf, digest}
 use Rattle.fips180.specs.Continued.{padAfter, hashAfter}
+use Rattle.fips180.proofs.Bytes.{length-words}
 use Rattle.fips180.proofs.Blocks.{block-positive}
 
 module _ (f : Family) where
@@ -77,3 +78,17 @@ module _ (f : Family) where
     hash-block h b m e =
         hash-append h b m 1 (e ∙ sym (one-mul (blockBytes f)))
         ∙ ap (λ (x : List ℕ). hashAfter f (compress f x h) 1 m) (ap (λ (n : ℕ). take (blockBytes f) (drop n b)) (zero-mul (blockBytes f)) ∙ take-all (blockBytes f) b (omega arith))
+
+    -- the digest, in the same two cases: the first n bytes of the hash value
+    pub digest-whole : (h : List ℕ) (n : ℕ) (m : List ℕ) → take n (wordBytesOf f 8 (hashAfter f h 0 m)) ≡ digest f h n m
+    unfolding digest
+    digest-whole h n m = ap (λ (v : List ℕ). take n (wordBytesOf f 8 v)) (sym (hash-whole h m))
+
+    pub digest-block : (h b : List ℕ) (n : ℕ) (m : List ℕ) → length b ≡ blockBytes f
+        → take n (wordBytesOf f 8 (hashAfter f (compress f b h) 1 m)) ≡ digest f h n (b ++ m)
+    unfolding digest
+    digest-block h b n m e = ap (λ (v : List ℕ). take n (wordBytesOf f 8 v)) (sym (hash-block h b m e))
+
+  -- all of its bytes are the digest
+  pub digest-all : (v : List ℕ) (n : ℕ) → n ≡ 8 * f .wordBytes → wordBytesOf f 8 v ≡ take n (wordBytesOf f 8 v)
+  digest-all v n e = let l = length-words f 8 v in sym (take-all n (wordBytesOf f 8 v) (omega arith))

@@ -40,7 +40,7 @@ pub fn sha256(message: &[u8]) -> Hashed
     if message.len() >= TOO_LONG {
         return too_long();
     }
-    let mut h = constants::initial_hash_value();
+    let mut h = constants::INITIAL_HASH_VALUE;
     Hashed {
         verdict: Verdict::Accepted,
         digest: message::digest(&mut h, 0, message),
@@ -55,7 +55,7 @@ pub fn sha256_after_block(block: [u8; 64], message: &[u8]) -> Hashed
     if message.len() >= TOO_LONG - 64 {
         return too_long();
     }
-    let mut h = constants::initial_hash_value();
+    let mut h = constants::INITIAL_HASH_VALUE;
     block::update(&mut h, &block);
     Hashed {
         verdict: Verdict::Accepted,

@@ -1,12 +1,11 @@
 use Prim.Native.Nat.{ℕ}
-use mathlib.Core.Path.{sym, ap, _∙_}
+use mathlib.Core.Path.{refl, sym, _∙_}
 use mathlib.Core.List.{List}
 use native.Mathlib.Omega.{arith}
 use borrow.Author.Needs.{needs}
-use Rattle.fips180.specs.Hash.{wordBytesOf}
-use Rattle.fips180.specs.Continued.{hashAfter}
-use Rattle.fips180.specs.Sha256.{family32}
-use Rattle.sha256.proofs.Laws.{number-accepted, number-refused, digest-accepted, digest-refused, digest-whole}
+use Rattle.fips180.specs.Sha256.{family32, initial256, sha256}
+use Rattle.fips180.proofs.Continued.{digest-all, digest-whole}
+use Rattle.sha256.proofs.Laws.{number-accepted, number-refused, digest-accepted, digest-refused}
 use Rattle.sha256.proofs.sha256.Statement.{statement}
 use Rattle.sha256.proofs.sha256.Tie as tie
 
@@ -17,14 +16,14 @@ returns c =
     (c .too-long .ensures .0 ∙ sym (number-refused m (omega arith)), c .too-long .ensures .1 ∙ sym (digest-refused m (omega arith)))
 
 returns-2 : tie.Need-returns-2
+unfolding sha256 initial256 family32
 returns-2 c =
-    let m : List ℕ = c .before .before .before .before .before .args .message .now in
-    let l = c .before .before .before .if1 .left in (
+    let m : List ℕ = c .before .before .before .before .args .message .now in
+    let l = c .before .before .if1 .left in (
       sym (number-accepted m l),
-      c .digest .ensures ∙ ap (λ (h : List ℕ). wordBytesOf family32 8 (hashAfter family32 h 0 m)) (c .before .before .initial-hash-value .ensures)
-          ∙ digest-whole m ∙ sym (digest-accepted m l),
+      c .digest .ensures ∙ digest-all family32 _ 32 refl ∙ digest-whole family32 (omega arith) initial256 32 m ∙ sym (digest-accepted m l),
     )
 
 pub sha256-spec : {M : Type 1} → statement M
 sha256-spec = tie.close
-    (tie.spec (λ c κs. search needs) returns (λ c κs. search needs) (λ c κs. search needs) returns-2)
+    (tie.spec (λ c κs. search needs) returns (λ c κs. search needs) returns-2)

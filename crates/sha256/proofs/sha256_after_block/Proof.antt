@@ -1,13 +1,15 @@
 use Prim.Native.Nat.{ℕ}
-use mathlib.Core.Path.{_≡_, sym, ap, _∙_}
+use mathlib.Core.Path.{_≡_, refl, sym, ap, _∙_}
 use mathlib.Core.List.{List, _++_}
 use native.Mathlib.Omega.{arith}
 use lib.ListN.{length, length-append}
 use borrow.Author.Needs.{needs}
-use Rattle.fips180.specs.Hash.{compress, wordBytesOf}
+use Rattle.fips180.specs.Hash.{wordBytesOf}
 use Rattle.fips180.specs.Continued.{hashAfter}
-use Rattle.fips180.specs.Sha256.{family32}
-use Rattle.sha256.proofs.Laws.{number-accepted, number-refused, digest-accepted, digest-refused, digest-block}
+use Rattle.fips180.specs.Family.{blockBytes}
+use Rattle.fips180.specs.Sha256.{family32, initial256, sha256}
+use Rattle.fips180.proofs.Continued.{digest-all, digest-block}
+use Rattle.sha256.proofs.Laws.{number-accepted, number-refused, digest-accepted, digest-refused}
 use Rattle.sha256.proofs.sha256_after_block.Statement.{statement}
 use Rattle.sha256.proofs.sha256_after_block.Tie as tie
 
@@ -21,19 +23,19 @@ returns c =
     (c .too-long .ensures .0 ∙ sym (number-refused m (omega arith)), c .too-long .ensures .1 ∙ sym (digest-refused m (omega arith)))
 
 returns-2 : tie.Need-returns-2
+unfolding sha256 initial256 blockBytes family32
 returns-2 c =
-    let a = c .before .before .before .before .before .before .before .before .args in
+    let a = c .before .before .before .before .before .before .before .args in
     let e : length (a .t1) ≡ 64 = search needs in
     let n = length-append (a .t1) (a .message .now) in
-    let l = c .before .before .before .before .before .before .if1 .left in
-    let m : List ℕ = a .t1 ++ a .message .now in
-    let h = c .before .before .update .ensures ∙ ap (compress family32 (a .t1)) (c .before .before .before .before .before .initial-hash-value .ensures) in (
+    let l = c .before .before .before .before .before .if1 .left in
+    let m : List ℕ = a .t1 ++ a .message .now in (
       sym (number-accepted m (omega arith)),
-      c .digest .ensures ∙ ap (λ (v : List ℕ). wordBytesOf family32 8 (hashAfter family32 v 1 (a .message .now))) h
-          ∙ digest-block (a .t1) (a .message .now) e ∙ sym (digest-accepted m (omega arith)),
+      c .digest .ensures ∙ ap (λ (v : List ℕ). wordBytesOf family32 8 (hashAfter family32 v 1 (a .message .now))) (c .before .before .update .ensures)
+          ∙ digest-all family32 _ 32 refl ∙ digest-block family32 (omega arith) initial256 (a .t1) 32 (a .message .now) e ∙ sym (digest-accepted m (omega arith)),
     )
 
 pub sha256-after-block-spec : {M : Type 1} → statement M
 sha256-after-block-spec =
     tie.close
-    (tie.spec (λ c. search needs) (λ c κs. search needs) returns (λ c κs. search needs) (λ c. search needs) (λ c κs. search needs) (λ c κs. search needs) returns-2)
+    (tie.spec (λ c. search needs) (λ c κs. search needs) returns (λ c. search needs) (λ c κs. search needs) (λ c κs. search needs) returns-2)

@@ -6,7 +6,7 @@ use Rattle.sha256.proofs.message.digest.Statement.{statement}
 use Rattle.sha256.proofs.message.digest.Tie as tie
 
 returns : tie.Need-returns
-returns c = c .bytes .ensures ∙ ap (wordBytesOf family32 8) (c .before .before .hash-value .ensures)
+returns c = c .hash-bytes .ensures ∙ ap (wordBytesOf family32 8) (c .before .before .hash-value .ensures)
 
 pub digest-spec : {M : Type 1} → statement M
 digest-spec = tie.close

@@ -1,46 +1,38 @@
-use Prim.Native.Nat.{ℕ, _+_, _-_, _*_, _/_, _≤_}
-use mathlib.Core.Path.{_≡_, refl, sym, ap, _∙_}
-use mathlib.Core.List.{List}
+use Prim.Native.Nat.{_+_, _-_, _*_, _/_, _≤_}
+use mathlib.Core.Path.{_≡_, ap, _∙_}
 use native.Mathlib.Omega.{arith}
-use lib.ListN.{length, take, drop}
+use lib.ListN.{length}
 use borrow.Author.Needs.{needs}
 use Rattle.fips180.specs.Family.{blockBytes}
 use Rattle.fips180.specs.Hash.{hashValue}
-use Rattle.fips180.specs.Continued.{padAfter}
 use Rattle.fips180.specs.Sha256.{family32}
-use Rattle.fips180.proofs.Padding.{pad-block}
-use Rattle.fips180.proofs.Blocks.{hashValue-more}
+use Rattle.fips180.proofs.LastBlocks.{whole-none, whole-more}
 use Rattle.sha256.proofs.message.whole_blocks.Statement.{statement}
 use Rattle.sha256.proofs.message.whole_blocks.Tie as tie
 
 abbrev Inv-loop : tie.InvT-loop
-Inv-loop s₀ m full i₀ s i = (i ≤ full) × ((k : ℕ) → s ≡ hashValue family32 s₀ (padAfter family32 k m) i)
+Inv-loop s₀ m i₀ i-end s i = (i ≤ length m / 64) × (s ≡ hashValue family32 s₀ m i)
 
 abbrev μ-loop : tie.MeasureT-loop
-μ-loop s₀ m full i₀ s i = full - i
+μ-loop s₀ m i₀ i-end s i = length m / 64 - i
 
 loop-holds : tie.Need-loop-holds Inv-loop μ-loop
-unfolding hashValue
-loop-holds c = (omega arith, λ k. refl)
+unfolding blockBytes family32
+loop-holds c = let a = c .before .args in (omega arith, whole-none family32 (omega arith) (a .m .now) (a .s .now))
 
 loop-again : tie.Need-loop-again Inv-loop μ-loop
 unfolding blockBytes family32
 loop-again c =
-    let at = c .before .before .before .before .loop in
-    let m : List ℕ = c .before .before .before .before .before .before .args .m .now in
-    let n : at .i * 64 + 64 - at .i * 64 ≡ 64 = omega arith in (
-      omega arith,
-      λ k.
-          hashValue-more family32 _ (padAfter family32 k m) _ (at .s) _ (at .i) (at .inv .1 k)
-          (ap (λ (x : ℕ). take x (drop (at .i * 64) m)) n ∙ sym (pad-block family32 k m (at .i) (omega arith))) (c .update .ensures),
-    )
+    let l = c .before .before .before .before .loop in
+    let a = c .before .before .before .before .before .before .args in
+    (omega arith, whole-more family32 (omega arith) (a .m .now) (a .s .now) (l .i) (l .i * 64 + 64 - l .i * 64) (omega arith) (l .inv .1) (c .update .ensures))
 
 returns : tie.Need-returns Inv-loop μ-loop
 returns c =
-    let at = c .before .loop in
-    let m : List ℕ = c .before .before .before .args .m .now in
-    let e : at .i ≡ length m / 64 = omega arith in
-    λ k. at .inv .1 k ∙ ap (hashValue family32 _ (padAfter family32 k m)) e
+    let l = c .before .loop in
+    let a = c .before .before .before .args in
+    let e : l .i ≡ length (a .m .now) / 64 = omega arith in
+    l .inv .1 ∙ ap (hashValue family32 (a .s .now) (a .m .now)) e
 
 pub whole-blocks-spec : {M : Type 1} → statement M
 whole-blocks-spec =
