@@ -27,12 +27,15 @@
  * no heap, no input or output, no start-up. It is x86-64 code that uses the SSE2
  * registers and the 128 bytes below the stack pointer, as the System V ABI has it.
  *
- * Time: in cerberus_sha256, cerberus_hmac_sha256 and cerberus_pairing_key no
- * branch and no address depends on the bytes of message, key or text, only on
- * their lengths (tests/memcheck shows it of the library as built; no proof does).
+ * Time: in cerberus_sha256, _sha384, _sha512, _hash, _hash_matches,
+ * cerberus_hmac_sha256 and cerberus_pairing_key no branch and no address depends
+ * on the bytes of message, hash, key or text, only on their lengths and on
+ * hash_type (tests/memcheck shows it of the library as built; no proof does). Of
+ * a message and a hash that are compared *matches tells whether they fit, and the
+ * time nothing more.
  * A caller that compares MACs reads them to their ends (examples/c/same_bytes.h).
  *
- * Memory: these three calls wipe nothing. The key, the key with its pad, the
+ * Memory: these calls wipe nothing. The key, the key with its pad, the
  * inner digest, the end of the message and the result are left on the stack
  * below the caller's frame, and parts of them in registers. A caller to whom this
  * matters wipes that part of the stack after the call, or makes the call on a
@@ -71,10 +74,31 @@ enum {
  * Refuses: 3 text has under 80 bytes; 5 number is not 1 to 12. */
 uint8_t cerberus_meaning(uint8_t number, uint8_t *text, size_t text_len, size_t *meaning_len);
 
-/* ---- SHA-256 */
+/* ---- hashes (FIPS 180-4) */
 
 /* The digest of a message. Refuses: 2 the message has 2^61 bytes or more. */
 uint8_t cerberus_sha256(const uint8_t *message, size_t message_len, uint8_t digest[32]);
+
+/* The digest of a message. They refuse nothing: no length below 2^63 is too long. */
+uint8_t cerberus_sha384(const uint8_t *message, size_t message_len, uint8_t digest[48]);
+uint8_t cerberus_sha512(const uint8_t *message, size_t message_len, uint8_t digest[64]);
+
+/* The hash types of manifests and their elements: hashes of 32, 48 and 64 bytes. */
+#define CERBERUS_HASH_SHA256 0
+#define CERBERUS_HASH_SHA384 1
+#define CERBERUS_HASH_SHA512 2
+
+/* The hash of this type of a message.
+ * Refuses: 12 hash_type above 2; 3 hash has not exactly the type's 32, 48 or 64
+ * bytes; 2 hash_type is 0 and the message has 2^61 bytes or more. */
+uint8_t cerberus_hash(uint8_t hash_type, const uint8_t *message, size_t message_len, uint8_t *hash, size_t hash_len);
+
+/* *matches becomes 1 if the hash_len bytes of hash are the hash of this type of
+ * the message, else 0: so also where hash_type is above 2, hash_len isn't the
+ * type's, or the message has no such hash (hash_type 0, 2^61 bytes or more).
+ * Refuses nothing. */
+uint8_t cerberus_hash_matches(uint8_t hash_type, const uint8_t *message, size_t message_len,
+                              const uint8_t *hash, size_t hash_len, uint8_t *matches);
 
 /* ---- HMAC-SHA-256 */
 

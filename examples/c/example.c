@@ -1,6 +1,7 @@
 /* The controller calls from C: a measurement log with three events, whose buffer another hand writes to
  * and a replay repairs, and which is compared with another card's; a manifest that comes in by Cerberus
- * messages and is then asked for its version id; and a card that is bound to its chassis.
+ * messages and is then asked for its version id; a firmware image that is checked by a hash of each type
+ * that manifests have; and a card that is bound to its chassis.
  * The status is 1 if a call answers something that it shouldn't. */
 #include "cerberus.h"
 #include "same_bytes.h"
@@ -207,6 +208,40 @@ static void transfer(void) {
            (unsigned long long)slot.active_id);
 }
 
+/* ---- firmware hashes */
+
+/* Whether this is the image's hash. */
+static void check_image(uint8_t hash_type, const uint8_t *image, size_t image_len, const uint8_t *hash, size_t hash_len,
+                        uint8_t right) {
+    uint8_t matches;
+    uint8_t answer = cerberus_hash_matches(hash_type, image, image_len, hash, hash_len, &matches);
+    expect(answer, CERBERUS_ACCEPTED, "hash matches");
+    if (matches != right) {
+        fprintf(stderr, "hash type %u: the match isn't right\n", hash_type);
+        exit(1);
+    }
+}
+
+/* An image, which is filler, has the hash that was made of it, and with one bit changed it hasn't. */
+static void check_by_type(uint8_t hash_type, size_t hash_len) {
+    uint8_t image[1000], hash[64];
+    memset(image, 0xc3, sizeof image);
+    expect(cerberus_hash(hash_type, image, sizeof image, hash, hash_len), CERBERUS_ACCEPTED, "hash");
+    printf("  type %u ", hash_type);
+    print_bytes(hash, hash_len);
+    check_image(hash_type, image, sizeof image, hash, hash_len, 1);
+    image[500] ^= 1;
+    check_image(hash_type, image, sizeof image, hash, hash_len, 0);
+    printf("  the image has it, and with one bit changed it hasn't\n");
+}
+
+static void check_firmware(void) {
+    printf("firmware hashes of the types that manifests have\n");
+    check_by_type(CERBERUS_HASH_SHA256, 32);
+    check_by_type(CERBERUS_HASH_SHA384, 48);
+    check_by_type(CERBERUS_HASH_SHA512, 64);
+}
+
 /* ---- device binding */
 
 /* What the slot mask of the card's challenge response says. */
@@ -254,6 +289,7 @@ static void bind_to_chassis(void) {
 int main(void) {
     measure();
     transfer();
+    check_firmware();
     bind_to_chassis();
     return 0;
 }

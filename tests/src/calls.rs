@@ -3,7 +3,8 @@
 
 use crate::ffi;
 use crate::model::{
-    Answer, Refusal, certificate_slots, comparison, element, hmac, log, meaning, message, pairing, sha256, slot,
+    Answer, Refusal, certificate_slots, comparison, element, hash, hmac, log, meaning, message, pairing, sha256,
+    sha512, slot,
 };
 
 /// What lent memory serves as.
@@ -21,6 +22,10 @@ use Kind::{Bytes, Value};
 pub enum Call {
     Meaning,
     Sha256,
+    Sha384,
+    Sha512,
+    Hash,
+    HashMatches,
     HmacSha256,
     PairingKey,
     CertificateSlots,
@@ -54,9 +59,13 @@ pub enum Call {
 
 use Call::*;
 
-pub const CALLS: [Call; 31] = [
+pub const CALLS: [Call; 35] = [
     Meaning,
     Sha256,
+    Sha384,
+    Sha512,
+    Hash,
+    HashMatches,
     HmacSha256,
     PairingKey,
     CertificateSlots,
@@ -99,13 +108,23 @@ pub struct Signature {
 }
 
 const STATE_AND_BUFFER: &[(&str, Kind)] = &[("log", Bytes), ("buffer", Bytes)];
+const MESSAGE_AND_DIGEST: &[(&str, Kind)] = &[("message", Bytes), ("digest", Bytes)];
 const READ_REGION: &[(&str, Kind)] = &[("element", Bytes), ("start", Value), ("end", Value)];
 
 impl Call {
     pub fn signature(self) -> Signature {
         let (name, answers, numbers, lent): (_, &[u8], &[&str], &[(&str, Kind)]) = match self {
             Meaning => ("cerberus_meaning", &[0, 3, 5], &["number"], &[("text", Bytes), ("meaning_len", Value)]),
-            Sha256 => ("cerberus_sha256", &[0, 2], &[], &[("message", Bytes), ("digest", Bytes)]),
+            Sha256 => ("cerberus_sha256", &[0, 2], &[], MESSAGE_AND_DIGEST),
+            Sha384 => ("cerberus_sha384", &[0], &[], MESSAGE_AND_DIGEST),
+            Sha512 => ("cerberus_sha512", &[0], &[], MESSAGE_AND_DIGEST),
+            Hash => ("cerberus_hash", &[0, 2, 3, 12], &["hash_type"], &[("message", Bytes), ("hash", Bytes)]),
+            HashMatches => (
+                "cerberus_hash_matches",
+                &[0],
+                &["hash_type"],
+                &[("message", Bytes), ("hash", Bytes), ("matches", Value)],
+            ),
             HmacSha256 => ("cerberus_hmac_sha256", &[0, 2], &[], &[("key", Bytes), ("text", Bytes), ("mac", Bytes)]),
             PairingKey => ("cerberus_pairing_key", &[0, 2, 3], &[], &[("session_key", Bytes), ("pairing_key", Bytes)]),
             CertificateSlots => ("cerberus_certificate_slots", &[0], &["mask"], &[("count", Value), ("lowest", Value)]),
@@ -239,7 +258,7 @@ pub struct Case {
 }
 
 /// A length that is passed for a buffer though no memory is that long. The rules decide these
-/// cases by the length alone: `answer` is given and nothing changes.
+/// cases by the length alone: `answer` is given and nothing changes, but that `HashMatches` says no.
 #[derive(Clone, Copy, Debug)]
 pub struct Claim {
     pub lent: usize,
@@ -276,6 +295,10 @@ pub fn call_library(case: &Case, at: &[*mut u8]) -> u8 {
         match case.call {
             Meaning => ffi::cerberus_meaning(n[0] as u8, at[0], len(0), at[1].cast()),
             Sha256 => ffi::cerberus_sha256(at[0], len(0), at[1]),
+            Sha384 => ffi::cerberus_sha384(at[0], len(0), at[1]),
+            Sha512 => ffi::cerberus_sha512(at[0], len(0), at[1]),
+            Hash => ffi::cerberus_hash(n[0] as u8, at[0], len(0), at[1], len(1)),
+            HashMatches => ffi::cerberus_hash_matches(n[0] as u8, at[0], len(0), at[1], len(1), at[2]),
             HmacSha256 => ffi::cerberus_hmac_sha256(at[0], len(0), at[1], len(1), at[2]),
             PairingKey => ffi::cerberus_pairing_key(at[0], len(0), at[1], len(1)),
             CertificateSlots => ffi::cerberus_certificate_slots(n[0] as u8, at[0], at[1]),
@@ -342,7 +365,12 @@ pub struct Outcome {
 pub fn call_model(case: &Case) -> Outcome {
     let mut lent = case.lent.clone();
     let answer = match case.claim {
-        Some(claim) => claim.answer,
+        Some(claim) => {
+            if case.call == HashMatches {
+                put(&mut lent[2], [0]);
+            }
+            claim.answer
+        }
         None => match apply_model(case.call, &case.numbers, &mut lent) {
             Ok(()) => 0,
             Err(refusal) => refusal as u8,
@@ -387,6 +415,10 @@ fn apply_model(call: Call, n: &[u64], lent: &mut [Vec<u8>]) -> Answer<()> {
     match (call, lent) {
         (Meaning, [text, meaning_len]) => put_size(meaning_len, meaning::meaning(n[0] as u8, text)?),
         (Sha256, [message, digest]) => put(digest, sha256::sha256(message)),
+        (Sha384, [message, digest]) => put(digest, sha512::sha384(message)),
+        (Sha512, [message, digest]) => put(digest, sha512::sha512(message)),
+        (Hash, [message, hash]) => hash::hash(n[0] as u8, message, hash)?,
+        (HashMatches, [message, hash, matches]) => put(matches, [hash::matches(n[0] as u8, message, hash).into()]),
         (HmacSha256, [key, text, mac]) => put(mac, hmac::hmac(key, text)?),
         (PairingKey, [session_key, pairing_key]) => pairing::pairing_key(session_key, pairing_key)?,
         (CertificateSlots, [count, lowest]) => {

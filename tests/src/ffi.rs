@@ -95,6 +95,17 @@ unsafe extern "C" {
     pub fn cerberus_meaning(number: u8, text: *mut u8, text_len: usize, meaning_len: *mut usize) -> u8;
 
     pub fn cerberus_sha256(message: *const u8, message_len: usize, digest: *mut u8) -> u8;
+    pub fn cerberus_sha384(message: *const u8, message_len: usize, digest: *mut u8) -> u8;
+    pub fn cerberus_sha512(message: *const u8, message_len: usize, digest: *mut u8) -> u8;
+    pub fn cerberus_hash(hash_type: u8, message: *const u8, message_len: usize, hash: *mut u8, hash_len: usize) -> u8;
+    pub fn cerberus_hash_matches(
+        hash_type: u8,
+        message: *const u8,
+        message_len: usize,
+        hash: *const u8,
+        hash_len: usize,
+        matches: *mut u8,
+    ) -> u8;
 
     pub fn cerberus_hmac_sha256(key: *const u8, key_len: usize, text: *const u8, text_len: usize, mac: *mut u8) -> u8;
 

@@ -1,31 +1,43 @@
-//! SHA-256 against the machine's own `sha256sum`: every length from 0 to 1,100 with several
-//! fillings, and some long messages.
+//! SHA-256, SHA-384 and SHA-512 against the machine's own `sha256sum`, `sha384sum` and `sha512sum`: every length from 0 to
+//! 1,100 with several fillings, and some long messages. The library hashes each by the hash's own call and by its type.
 
-use crate::ffi::cerberus_sha256;
-use crate::model::sha256::sha256;
+use crate::ffi::{cerberus_hash, cerberus_hash_matches, cerberus_sha256, cerberus_sha384, cerberus_sha512};
+use crate::model::hash;
+use crate::paper::OF_A_MILLION_AS;
 use crate::rng::Rng;
+use std::io::{Error, Result};
 use std::path::Path;
 use std::process::Command;
 
 const LENGTHS: usize = 1100;
 const LONG: [usize; 4] = [4096, 65_537, 1_000_000, 1 << 20];
 
-/// What was compared, in words.
-pub const WHAT: &str = "SHA-256 against sha256sum, every length 0 to 1,100";
+/// One hash and who works it out.
+struct Hash {
+    name: &'static str,
+    tool: &'static str,
+    hash_type: u8,
+    len: usize,
+    own_call: unsafe extern "C" fn(*const u8, usize, *mut u8) -> u8,
+}
 
-/// The number of messages that were compared, and those that differ, shown. The files go below `folder`.
-pub fn compare(folder: &Path, seed: u64) -> std::io::Result<(usize, Vec<String>)> {
+const HASHES: [Hash; 3] = [
+    Hash { name: "SHA-256", tool: "sha256sum", hash_type: 0, len: 32, own_call: cerberus_sha256 },
+    Hash { name: "SHA-384", tool: "sha384sum", hash_type: 1, len: 48, own_call: cerberus_sha384 },
+    Hash { name: "SHA-512", tool: "sha512sum", hash_type: 2, len: 64, own_call: cerberus_sha512 },
+];
+
+/// What was compared, in words.
+pub const WHAT: &str =
+    "SHA-256, SHA-384 and SHA-512 against sha256sum, sha384sum and sha512sum, every length 0 to 1,100";
+
+/// The number of digests that were compared, and those that differ, shown. The files go below `folder`.
+pub fn compare(folder: &Path, seed: u64) -> Result<(usize, Vec<String>)> {
     let messages = messages(&mut Rng::new(seed, "installed", 0));
-    let digests = installed_digests(folder, &messages)?;
-    let mut differences = Vec::new();
-    for (message, theirs) in messages.iter().zip(digests) {
-        let (library, model) = (library_digest(message), Some(sha256(message)));
-        if library != Some(theirs) || model != Some(theirs) {
-            let len = message.len();
-            differences.push(format!("SHA-256 of {len} bytes: library {library:02x?}, sha256sum {theirs:02x?}"));
-        }
-    }
-    Ok((messages.len(), differences))
+    let names = write_files(folder, &messages)?;
+    let compared: Result<Vec<_>> = HASHES.iter().map(|hash| compare_hash(hash, folder, &names, &messages)).collect();
+    std::fs::remove_dir_all(folder)?;
+    Ok((HASHES.len() * messages.len(), compared?.concat()))
 }
 
 fn messages(rng: &mut Rng) -> Vec<Vec<u8>> {
@@ -37,36 +49,72 @@ fn messages(rng: &mut Rng) -> Vec<Vec<u8>> {
     messages
 }
 
-fn library_digest(message: &[u8]) -> Option<[u8; 32]> {
-    let mut digest = [0; 32];
-    // SAFETY: a message with its length, and 32 bytes for the digest.
-    let answer = unsafe { cerberus_sha256(message.as_ptr(), message.len(), digest.as_mut_ptr()) };
-    (answer == 0).then_some(digest)
-}
-
-/// Writes each message to a file and has one `sha256sum` hash them all.
-fn installed_digests(folder: &Path, messages: &[Vec<u8>]) -> std::io::Result<Vec<[u8; 32]>> {
+/// The names of the messages' files.
+fn write_files(folder: &Path, messages: &[Vec<u8>]) -> Result<Vec<String>> {
     std::fs::create_dir_all(folder)?;
     let names: Vec<String> = (0..messages.len()).map(|number| format!("{number:05}")).collect();
     for (name, message) in names.iter().zip(messages) {
         std::fs::write(folder.join(name), message)?;
     }
-    let output = Command::new("sha256sum").current_dir(folder).args(&names).output()?;
-    std::fs::remove_dir_all(folder)?;
+    Ok(names)
+}
+
+/// The digests of one hash that differ.
+fn compare_hash(hash: &Hash, folder: &Path, names: &[String], messages: &[Vec<u8>]) -> Result<Vec<String>> {
+    let digests = installed_digests(hash, folder, names)?;
+    let mut differences = Vec::new();
+    for (message, theirs) in messages.iter().zip(&digests) {
+        let model = hash::digest(hash.hash_type, message).ok();
+        let found = [model, own_digest(hash, message), digest_by_type(hash, message)];
+        if found.iter().any(|found| found.as_ref() != Some(theirs)) || !library_matches(hash, message, theirs) {
+            let what = format!("{} of {} bytes", hash.name, message.len());
+            differences.push(format!("{what}: {} {theirs:02x?}, model and library {found:02x?}", hash.tool));
+        }
+    }
+    let published = digest_of_line(OF_A_MILLION_AS[usize::from(hash.hash_type)], hash.len);
+    if digests.last() != published.as_ref() {
+        differences.push(format!("{} of a million letters a isn't the published one", hash.name));
+    }
+    Ok(differences)
+}
+
+fn own_digest(hash: &Hash, message: &[u8]) -> Option<Vec<u8>> {
+    let mut digest = vec![0; hash.len];
+    // SAFETY: a message with its length, and as many bytes as the hash has.
+    let answer = unsafe { (hash.own_call)(message.as_ptr(), message.len(), digest.as_mut_ptr()) };
+    (answer == 0).then_some(digest)
+}
+
+fn digest_by_type(hash: &Hash, message: &[u8]) -> Option<Vec<u8>> {
+    let mut digest = vec![0; hash.len];
+    let (at, len) = (digest.as_mut_ptr(), digest.len());
+    // SAFETY: a message and a buffer, with their lengths.
+    let answer = unsafe { cerberus_hash(hash.hash_type, message.as_ptr(), message.len(), at, len) };
+    (answer == 0).then_some(digest)
+}
+
+fn library_matches(hash: &Hash, message: &[u8], digest: &[u8]) -> bool {
+    let mut matches = 9;
+    let (at, len) = (digest.as_ptr(), digest.len());
+    // SAFETY: a message and a hash, with their lengths, and a byte for the answer.
+    let answer =
+        unsafe { cerberus_hash_matches(hash.hash_type, message.as_ptr(), message.len(), at, len, &mut matches) };
+    answer == 0 && matches == 1
+}
+
+/// Has the hash's tool hash all files at once.
+fn installed_digests(hash: &Hash, folder: &Path, names: &[String]) -> Result<Vec<Vec<u8>>> {
+    let output = Command::new(hash.tool).current_dir(folder).args(names).output()?;
     let text = String::from_utf8_lossy(&output.stdout);
-    let digests: Vec<[u8; 32]> = text.lines().filter_map(digest_of_line).collect();
-    if !output.status.success() || digests.len() != messages.len() {
-        return Err(std::io::Error::other("sha256sum didn't answer for every file"));
+    let digests: Vec<Vec<u8>> = text.lines().filter_map(|line| digest_of_line(line, hash.len)).collect();
+    if !output.status.success() || digests.len() != names.len() {
+        return Err(Error::other(format!("{} didn't answer for every file", hash.tool)));
     }
     Ok(digests)
 }
 
-/// The 32 bytes that a line begins with, in hex.
-pub fn digest_of_line(line: &str) -> Option<[u8; 32]> {
-    let hex = line.get(..64)?;
-    let mut digest = [0; 32];
-    for (i, byte) in digest.iter_mut().enumerate() {
-        *byte = u8::from_str_radix(&hex[2 * i..2 * i + 2], 16).ok()?;
-    }
-    Some(digest)
+/// The so many bytes that a line begins with, in hex.
+pub fn digest_of_line(line: &str, len: usize) -> Option<Vec<u8>> {
+    let hex = line.get(..2 * len)?;
+    (0..len).map(|i| u8::from_str_radix(&hex[2 * i..2 * i + 2], 16).ok()).collect()
 }

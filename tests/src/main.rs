@@ -126,7 +126,7 @@ fn show_differences(tallies: &Tallies) {
 
 /// The number of values of which the machine's own tools say something else.
 fn installed(options: &Options) -> u64 {
-    let hashes = installed::compare(&options.scratch.join("sha256"), options.seed);
+    let hashes = installed::compare(&options.scratch.join("hashes"), options.seed);
     let macs = openssl::compare(&options.scratch.join("openssl"), options.seed);
     show_installed(installed::WHAT, hashes) + show_installed(openssl::WHAT, macs)
 }

@@ -101,7 +101,9 @@ fn hex_key(key: &[u8]) -> String {
 fn answer(command: &mut Command) -> Result<[u8; 32]> {
     let output = command.output()?;
     let digits: String = output.stdout.iter().map(|&byte| byte as char).filter(char::is_ascii_hexdigit).collect();
-    let bytes = digest_of_line(&digits).filter(|_| output.status.success() && digits.len() == 64);
+    let bytes = digest_of_line(&digits, 32).filter(|_| output.status.success() && digits.len() == 64);
     let said = String::from_utf8_lossy(&output.stderr);
-    bytes.ok_or_else(|| Error::other(format!("no answer from {command:?}: {said}")))
+    bytes
+        .and_then(|bytes| bytes.try_into().ok())
+        .ok_or_else(|| Error::other(format!("no answer from {command:?}: {said}")))
 }

@@ -1,27 +1,66 @@
 //! Document 01's examples at the edges, published vectors, and what document 02 says of a log's state (Item 2), of its
-//! legacy form (Item 4) and of slots and pairing (Item 14), with the papers' own bytes: neither the library nor the
-//! model decides here what is right.
+//! legacy form (Item 4), of hash types (Item 8) and of slots and pairing (Item 14), with the papers' own bytes: neither
+//! the library nor the model decides here what is right.
 
 use crate::calls::{Call, Case, Outcome, call_model};
 use crate::ffi::slot_bytes;
+use crate::generate::hash::OF_ONE_KIND;
 use crate::harness::Harness;
+use crate::model::sha512::constants_are_roots;
 use crate::model::slot::Numbers;
 
 /// SHA-256 of 64 zero bytes, which the paper's first record ends with.
 const OF_64_ZEROS: &str = "f5a5fd42d16a20302798ef6ed309979b43003d2320d9f0e8ea9831a92759fb4b";
 
-/// FIPS 180-4's examples for SHA-256, as published.
-const VECTORS: [(&[u8], &str); 4] = [
-    (b"", "e3b0c44298fc1c149afbf4c8996fb92427ae41e4649b934ca495991b7852b855"),
-    (b"abc", "ba7816bf8f01cfea414140de5dae2223b00361a396177a9cb410ff61f20015ad"),
+/// FIPS 180-4's examples for SHA-256, SHA-384 and SHA-512, as published: "abc" for each, the third message for SHA-256
+/// and the fourth for the others. What else the three hashes make of these, and of the empty message, is as Python's
+/// hashlib has it.
+const VECTORS: [(&[u8], [&str; 3]); 4] = [
+    (
+        b"",
+        [
+            "e3b0c44298fc1c149afbf4c8996fb92427ae41e4649b934ca495991b7852b855",
+            "38b060a751ac96384cd9327eb1b1e36a21fdb71114be0743 4c0cc7bf63f6e1da274edebfe76f65fbd51ad2f14898b95b",
+            "cf83e1357eefb8bdf1542850d66d8007d620e4050b5715dc83f4a921d36ce9ce \
+             47d0d13c5d85f2b0ff8318d2877eec2f63b931bd47417a81a538327af927da3e",
+        ],
+    ),
+    (
+        b"abc",
+        [
+            "ba7816bf8f01cfea414140de5dae2223b00361a396177a9cb410ff61f20015ad",
+            "cb00753f45a35e8bb5a03d699ac65007272c32ab0eded163 1a8b605a43ff5bed8086072ba1e7cc2358baeca134c825a7",
+            "ddaf35a193617abacc417349ae20413112e6fa4e89a97ea20a9eeee64b55d39a \
+             2192992a274fc1a836ba3c23a3feebbd454d4423643ce80e2a9ac94fa54ca49f",
+        ],
+    ),
     (
         b"abcdbcdecdefdefgefghfghighijhijkijkljklmklmnlmnomnopnopq",
-        "248d6a61d20638b8e5c026930c3e6039a33ce45964ff2167f6ecedd419db06c1",
+        [
+            "248d6a61d20638b8e5c026930c3e6039a33ce45964ff2167f6ecedd419db06c1",
+            "3391fdddfc8dc7393707a65b1b4709397cf8b1d162af05ab fe8f450de5f36bc6b0455a8520bc4e6f5fe95b1fe3c8452b",
+            "204a8fc6dda82f0a0ced7beb8e08a41657c16ef468b228a8279be331a703c335 \
+             96fd15c13b1b07f9aa1d3bea57789ca031ad85c7a71dd70354ec631238ca3445",
+        ],
     ),
     (
         b"abcdefghbcdefghicdefghijdefghijkefghijklfghijklmghijklmnhijklmnoijklmnopjklmnopqklmnopqrlmnopqrsmnopqrstnopqrstu",
-        "cf5b16a778af8380036ce59e7b0492370b249b11e8f07a51afac45037afee9d1",
+        [
+            "cf5b16a778af8380036ce59e7b0492370b249b11e8f07a51afac45037afee9d1",
+            "09330c33f71147e83d192fc782cd1b4753111b173b3b05d2 2fa08086e3b0f712fcc7c71a557e2db966c3e9fa91746039",
+            "8e959b75dae313da8cf4f72814fc143f8f7779c6eb9f7fa17299aeadb6889018 \
+             501d289e4900f7e4331b99dec4b5433ac7d329eeb6dd26545e96e55b874be909",
+        ],
     ),
+];
+
+/// The letter a, a million times, by the same three, as FIPS 180-2 published them. It is too long to be lent here:
+/// `installed` holds the machine's tools to them, and the library and the model to the tools.
+pub const OF_A_MILLION_AS: [&str; 3] = [
+    "cdc76e5c9914fb9281a1c7e284d73e67f1809a48a497200e046d39ccc7112cd0",
+    "9d0e1809716474cb086e834e310a4a1ced149e9c00f248527972cec5704c2a5b07b8b3dc38ecc4ebae97ddd87f3d8985",
+    "e718483d0ce769644e2e42c7bc15b4638e1f98b13b2044285632a803afa973eb\
+     de0ff244877ea60a4cb0432ce577c31beb009c5c2c49aa2e4eadb217ad8cc09b",
 ];
 
 /// Key, text and MAC of RFC 4231's test cases 1 to 4, 6 and 7 for HMAC-SHA-256, as CPython 3.11's Lib/test/test_hmac.py
@@ -92,10 +131,37 @@ fn expect_unchanged(harness: &mut Harness, case: Case, answer: u8) {
     expect(harness, case, answer, lent);
 }
 
+/// Each by its own call, by its type and compared: with itself, cut and with a byte more.
 fn hashes(harness: &mut Harness) {
-    for (message, digest) in VECTORS {
-        let case = Case::new(Call::Sha256, &[], vec![message.to_vec(), vec![0; 32]]);
-        expect(harness, case, 0, vec![message.to_vec(), bytes(digest)]);
+    assert!(constants_are_roots(), "the model's constants aren't those of FIPS 180-4");
+    for (message, digests) in VECTORS {
+        for ((hash_type, call), digest) in (0..).zip(OF_ONE_KIND).zip(digests.map(bytes)) {
+            let lent = vec![message.to_vec(), vec![0; digest.len()]];
+            let hashed = vec![message.to_vec(), digest.clone()];
+            expect(harness, Case::new(call, &[], lent.clone()), 0, hashed.clone());
+            expect(harness, Case::new(Call::Hash, &[hash_type], lent), 0, hashed);
+            compared_hash(harness, hash_type, message, &digest, 1);
+            compared_hash(harness, hash_type, message, &digest[1..], 0);
+            compared_hash(harness, hash_type, message, &[&digest[..], &[0]].concat(), 0);
+        }
+    }
+    types_without_a_hash(harness);
+}
+
+fn compared_hash(harness: &mut Harness, hash_type: u64, message: &[u8], hash: &[u8], matches: u8) {
+    let case = Case::new(Call::HashMatches, &[hash_type], vec![message.to_vec(), hash.to_vec(), vec![9]]);
+    expect(harness, case, 0, vec![message.to_vec(), hash.to_vec(), vec![matches]]);
+}
+
+/// Item 8: a type above 2 is 12, whatever the buffer, and it matches nothing.
+fn types_without_a_hash(harness: &mut Harness) {
+    for hash_type in [3, 4, 127, 128, 255] {
+        for len in [0, 31, 32, 48, 64, 65] {
+            expect_unchanged(harness, Case::new(Call::Hash, &[hash_type], vec![b"abc".to_vec(), vec![9; len]]), 12);
+        }
+        for (message, digests) in VECTORS {
+            digests.map(bytes).iter().for_each(|digest| compared_hash(harness, hash_type, message, digest, 0));
+        }
     }
 }
 

@@ -3,6 +3,7 @@
 
 use crate::calls::{CALLS, Call};
 use crate::generate::Generator;
+use crate::generate::hash::OF_ONE_KIND;
 use crate::generate::log::Pool;
 use crate::harness::Harness;
 use crate::rng::Rng;
@@ -99,7 +100,7 @@ fn systematic_jobs(plan: &mut Plan) {
     plan.add("element-indices", &OVER_ELEMENT, systematic::element::indices);
     plan.add("element-absurd-lengths", &OVER_ELEMENT, systematic::element::absurd_lengths);
     plan.add("meanings", &[Call::Meaning], systematic::meanings);
-    plan.add("messages-to-hash", &[Call::Sha256], systematic::messages_to_hash);
+    hash_jobs(plan);
     binding_jobs(plan);
 }
 
@@ -130,6 +131,23 @@ fn log_jobs(plan: &mut Plan) {
     plan.add("log-state-number-bits", &OVER_STATE, systematic::log_state::number_bits);
     plan.add("log-state-pairs", &OVER_STATE, systematic::log_state::pairs);
     plan.add("log-state-without-entries", &OVER_STATE, systematic::log_state::without_entries);
+}
+
+fn hash_jobs(plan: &mut Plan) {
+    for call in OF_ONE_KIND {
+        let name = format!("messages-to-hash/{}", call.name());
+        plan.add(&name, &[call], move |harness, rng| systematic::hash::messages(harness, call, rng));
+    }
+    plan.add("hash-messages", &[Call::Hash], systematic::hash::messages_by_type);
+    plan.add("hash-types-and-buffers", &[Call::Hash], systematic::hash::types_and_buffers);
+    plan.add("hash-refusals-at-once", &[Call::Hash], systematic::hash::refusals_at_once);
+    plan.add("hash-undefined-messages", &[Call::Hash], systematic::hash::undefined_messages);
+    plan.add("hash-matches-undefined-messages", &[Call::HashMatches], systematic::hash::compared_undefined_messages);
+    plan.add("hash-matches-right", &[Call::HashMatches], systematic::hash::right_hashes);
+    plan.add("hash-matches-bits", &[Call::HashMatches], systematic::hash::bits);
+    plan.add("hash-matches-pairs", &[Call::HashMatches], systematic::hash::pairs);
+    plan.add("hash-matches-lengths", &[Call::HashMatches], systematic::hash::hash_lengths);
+    plan.add("hash-matches-types", &[Call::HashMatches], systematic::hash::compared_types);
 }
 
 fn binding_jobs(plan: &mut Plan) {

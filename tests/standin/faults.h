@@ -4,6 +4,10 @@
 #define OVER_STATE "cerberus_log_record cerberus_log_register " JUDGING
 #define OF_ENTRIES \
     "cerberus_log_record " JUDGING " cerberus_log_replay cerberus_log_text_verdict cerberus_log_compare"
+#define BY_TYPE "cerberus_hash cerberus_hash_matches"
+#define OF_384 "cerberus_sha384 " BY_TYPE
+#define OF_512 "cerberus_sha512 " BY_TYPE
+#define WIDE "cerberus_sha384 " OF_512
 #define FAULTS(F) \
     F(EQUAL_ID, "an equal version id is taken as forward", "cerberus_slot_activate cerberus_command") \
     F(DIGEST_FIRST, "the digest is hashed before the register", OF_ENTRIES) \
@@ -28,8 +32,8 @@
     F(BUFFER_FIRST, "writers give 3 before 12", \
       "cerberus_region_write cerberus_rw_region_write cerberus_signed_image_write cerberus_root_cas_write") \
     F(REFUSES_ALL, "everything is refused", \
-      "cerberus_hmac_sha256 cerberus_pairing_key cerberus_log_record cerberus_log_check cerberus_log_replay " \
-      "cerberus_log_text_verdict cerberus_log_compare cerberus_slot_activate cerberus_command " \
+      "cerberus_hash cerberus_hmac_sha256 cerberus_pairing_key cerberus_log_record cerberus_log_check " \
+      "cerberus_log_replay cerberus_log_text_verdict cerberus_log_compare cerberus_slot_activate cerberus_command " \
       "cerberus_signed_image_read") \
     F(ONE_REGISTER, "every register reads as the same 32 bytes", "cerberus_log_register") \
     F(NOTHING_WRITTEN, "record says yes and writes nothing", "cerberus_log_record") \
@@ -99,9 +103,52 @@
     F(PLACE_FROM_1, "the place of a difference counts from 1", "cerberus_log_compare") \
     F(PLACE_OVER_LOG, "the place of a difference counts over the whole log", "cerberus_log_compare") \
     F(END_AT_AGREEMENT, "digests that agree have their end as a place", "cerberus_log_compare") \
-    F(PAST_BUFFER, "the byte behind the buffer is written", "cerberus_log_reset cerberus_slot_open cerberus_pairing_key") \
+    F(PAST_BUFFER, "the byte behind the buffer is written", \
+      "cerberus_sha384 cerberus_sha512 cerberus_hash cerberus_pairing_key cerberus_log_reset cerberus_slot_open") \
     F(PADDING, "the padding is wrong where the length just fits", \
-      "cerberus_sha256 cerberus_hmac_sha256 cerberus_pairing_key") \
+      "cerberus_sha256 " BY_TYPE " cerberus_hmac_sha256 cerberus_pairing_key") \
+    F(MESSAGE_LIMIT, "a message of 2^61 bytes is taken by SHA-256", "cerberus_sha256 " BY_TYPE) \
+    F(SHA384_FROM_512, "SHA-384 starts from SHA-512's initial value", OF_384) \
+    F(SHA512_FROM_384, "SHA-512 starts from SHA-384's initial value", OF_512) \
+    F(SHA384_AT_END, "SHA-384 is the end of the hash value", OF_384) \
+    F(SHA384_47_BYTES, "SHA-384's last byte is left zero", OF_384) \
+    F(SHA384_64_BYTES, "SHA-384 writes the whole hash value", "cerberus_sha384") \
+    F(BIG_SIGMA_0, "upper-case sigma 0 rotates by 33 for 34", WIDE) \
+    F(BIG_SIGMA_1, "upper-case sigma 1 rotates by SHA-256's 25 for 41", WIDE) \
+    F(SMALL_SIGMA_0, "lower-case sigma 0 rotates by SHA-256's 18 for 8", WIDE) \
+    F(SMALL_SIGMA_1, "lower-case sigma 1 rotates by SHA-256's 17 for 19", WIDE) \
+    F(SHIFT_ROTATES, "lower-case sigma 0 rotates where it shifts", WIDE) \
+    F(LAST_CONSTANT, "the last bit of the last constant of 64 bits is wrong", WIDE) \
+    F(ROUNDS_64, "SHA-512 has 64 rounds", WIDE) \
+    F(WORDS_LOW_FIRST, "words of 64 bits are read low byte first", WIDE) \
+    F(HASH_LOW_FIRST, "words of 64 bits are put low byte first", WIDE) \
+    F(FIRST_BLOCK_ALONE, "whole blocks of 128 bytes behind the first are dropped", WIDE) \
+    F(WIDE_PADDING, "111 bytes before the padding take a second block", WIDE) \
+    F(LENGTH_8_BYTES, "SHA-512's length has eight bytes of room", WIDE) \
+    F(MESSAGE_LENGTH_IN_BYTES, "SHA-512's length is put in bytes", WIDE) \
+    F(LENGTH_16_BITS, "two bytes of SHA-512's length are put", WIDE) \
+    F(HASH_BUFFER_FIRST, "3 comes before 12", "cerberus_hash") \
+    F(MESSAGE_BEFORE_BUFFER, "2 comes before 3", "cerberus_hash") \
+    F(LIMIT_OF_NO_TYPE, "a message of 2^61 bytes is 2 by a type above 2", "cerberus_hash") \
+    F(LONGER_HASH, "a buffer longer than the hash is taken", "cerberus_hash") \
+    F(SHORTER_HASH, "a shorter buffer gets the hash's front", "cerberus_hash") \
+    F(TYPE_BITS_LOST, "a hash type's upper bits are ignored", BY_TYPE) \
+    F(REFUSED_HASH_WRITTEN, "a hash is refused and written", "cerberus_hash") \
+    F(REFUSED_HASH_CLEARED, "a refused hash's buffer is cleared", "cerberus_hash") \
+    F(ABOVE_2_AS_0, "a type above 2 matches as SHA-256", "cerberus_hash_matches") \
+    F(FIRST_BYTE_UNCOMPARED, "a hash's first byte isn't compared", "cerberus_hash_matches") \
+    F(LAST_BYTE_UNCOMPARED, "a hash's last byte isn't compared", "cerberus_hash_matches") \
+    F(HALF_HASH, "32 bytes of a hash are compared", "cerberus_hash_matches") \
+    F(SHORTER_COMPARED, "the front of the right hash matches", "cerberus_hash_matches") \
+    F(LONGER_COMPARED, "what stands behind the right hash isn't looked at", "cerberus_hash_matches") \
+    F(HASH_LEN_8_BITS, "a hash's length is taken modulo 256", "cerberus_hash_matches") \
+    F(LENGTH_MATCHES, "any hash of the right length matches", "cerberus_hash_matches") \
+    F(DIFFERENCES_XORED, "two bytes that differ alike make up for one another", "cerberus_hash_matches") \
+    F(DIFFERENCES_ADDED, "differences are added modulo 256", "cerberus_hash_matches") \
+    F(NEVER_MATCHES, "nothing matches", "cerberus_hash_matches") \
+    F(MATCHES_KEPT, "the answer's memory stays where nothing matches", "cerberus_hash_matches") \
+    F(YES_255, "yes is answered as 255", "cerberus_hash_matches") \
+    F(NO_REFUSED, "a hash that doesn't match is refused", "cerberus_hash_matches") \
     F(PADS_EXCHANGED, "the inner and the outer pad are exchanged", "cerberus_hmac_sha256 cerberus_pairing_key") \
     F(ONE_PAD, "the inner pad serves as the outer one too", "cerberus_hmac_sha256 cerberus_pairing_key") \
     F(INNER_ALONE, "the outer hash is left out", "cerberus_hmac_sha256 cerberus_pairing_key") \
@@ -172,7 +219,7 @@
     F(LAST_REGION, "a signed image's last region isn't judged", \
       "cerberus_signed_image_read cerberus_signed_image_write") \
     F(HASH_TYPE_3, "hash type 3 is taken as 64 bytes", \
-      "cerberus_signed_image_read cerberus_signed_image_write cerberus_root_cas_read cerberus_root_cas_write") \
+      BY_TYPE " cerberus_signed_image_read cerberus_signed_image_write cerberus_root_cas_read cerberus_root_cas_write") \
     F(COUNT_WRAPS, "a count above 255 wraps", "cerberus_signed_image_write cerberus_root_cas_write") \
     F(NO_PARTS, "a count of 0 passes", \
       "cerberus_signed_image_read cerberus_signed_image_write cerberus_root_cas_read cerberus_root_cas_write") \

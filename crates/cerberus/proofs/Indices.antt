@@ -10,8 +10,9 @@ use lib.ListN.{length}
 use lib.Dec.{leb}
 use borrow.Author.Tests.{leb-true, leb-false}
 use Rattle.refusal.specs.Rules.{_when_else_, first_then_, any, Reply, reply}
+use Rattle.hash.specs.Types.{hashLength}
 use Rattle.elements.specs.declared.region.Region.{Region}
-use Rattle.elements.specs.Parts.{readNumber, hashWidth}
+use Rattle.elements.specs.Parts.{readNumber}
 use Rattle.elements.specs.SignedImage.{regionCountOf, imageFaults, imageNumber, imageRegion}
 use Rattle.elements.specs.RootCas.{rootsNumber, rootsHash, rootsHashNumber}
 use Rattle.elements.proofs.Roots.{roots-element, hash-there, hash-accepted}
@@ -49,7 +50,7 @@ region-index b i =
 
 -- a hash that is shown is as long as its type says, and begins within the element
 pub record HashShown (hashType : ℕ) (b : List ℕ) (index : ℕ) : Type 0 where
-  pub long : length (rootsHash hashType b index) ≡ hashWidth hashType
+  pub long : length (rootsHash hashType b index) ≡ hashLength hashType
   pub within : rootsHashOffset hashType index ≤ length b
 
 pub hash-shown : (hashType : ℕ) (b : List ℕ) (index : ℕ) → rootsHashNumber hashType b index ≡ 0 → HashShown hashType b index
@@ -57,11 +58,11 @@ hash-shown t b i e =
     let k = hash-accepted t b i e in
     record {
       long = by-number .hash-shown t b i e .0;
-      within = omega (arith, roots-element t b (k .0) .long, mul-le-mul-left (hashWidth t) (le-of-lt (k .1)));
+      within = omega (arith, roots-element t b (k .0) .long, mul-le-mul-left (hashLength t) (le-of-lt (k .1)));
     }
 
 -- the first hash is there in every element that is accepted
-pub first-hash : (hashType : ℕ) (b : List ℕ) → rootsNumber hashType b ≡ 0 → length (rootsHash hashType b 0) ≡ hashWidth hashType
+pub first-hash : (hashType : ℕ) (b : List ℕ) → rootsNumber hashType b ≡ 0 → length (rootsHash hashType b 0) ≡ hashLength hashType
 first-hash t b e =
     let some = roots-element t b e .some in
     by-number .hash-shown t b 0 (hash-there t b 0 e (omega (arith, some))) .0

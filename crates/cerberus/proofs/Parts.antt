@@ -17,7 +17,7 @@ use Rattle.manifest.specs.declared.Role.{Role}
 use Rattle.manifest.specs.declared.Role
 use Rattle.manifest.specs.Slot.{receivedOf}
 use Rattle.manifest.specs.Calls.{lentNumber, manifestPart}
-use Rattle.elements.specs.Parts.{hashWidth}
+use Rattle.hash.specs.Types.{hashLength}
 use Rattle.elements.specs.SignedImage.{imageHeadLength, hashTypeOf, hashOf, regionsOf, imageNumber, imageHash, imageRegions}
 use Rattle.elements.specs.RootCas.{rootsHash, rootsHashNumber}
 use Rattle.elements.proofs.Images.{image-element}
@@ -53,7 +53,7 @@ manifest s role pending active e = manifest-of s pending active (eqb role 0) (fi
 image : (b : List ℕ) → imageNumber b ≡ 0
     → (take (length (imageHash b)) (drop imageHeadLength b) ≡ imageHash b) × (drop (imageHeadLength + length (imageHash b)) b ≡ imageRegions b)
 image b e =
-    let w : ℕ = hashWidth (hashTypeOf b) in
+    let w : ℕ = hashLength (hashTypeOf b) in
     let h : imageHash b ≡ hashOf b = accepted-yes (hashOf b) [] e in
     let long : w ≤ length (drop imageHeadLength b) = omega (arith, image-element b e .long, length-drop imageHeadLength b) in (
       front w (drop imageHeadLength b) h,
@@ -62,7 +62,7 @@ image b e =
     )
 
 hash : (hashType : ℕ) (b : List ℕ) (index : ℕ) → rootsHashNumber hashType b index ≡ 0
-    → take (hashWidth hashType) (drop (rootsHashOffset hashType index) b) ≡ rootsHash hashType b index
+    → take (hashLength hashType) (drop (rootsHashOffset hashType index) b) ≡ rootsHash hashType b index
 hash t b i e = sym (by-number .hash-shown t b i e .1)
 
 pub part-laws : PartLaws

@@ -12,8 +12,9 @@ use Rattle.manifest.specs.declared.Slot.{Slot}
 use Rattle.manifest.specs.declared.Role.{Role}
 use Rattle.manifest.specs.declared.Role
 use Rattle.manifest.specs.Calls.{lentNumber, manifestPart}
+use Rattle.hash.specs.Types.{hashLength}
 use Rattle.elements.specs.declared.region.Region.{Region}
-use Rattle.elements.specs.Parts.{writtenBy, hashWidth}
+use Rattle.elements.specs.Parts.{writtenBy}
 use Rattle.elements.specs.Region.{regionLength, regionAt}
 use Rattle.elements.specs.RwRegion.{badOperation, RwFields, rwRegionBytes, rwRegionWriteNumber}
 use Rattle.elements.specs.SignedImage.{regionCountOf, regionsOf, imageNumber, imageBytes, imageWriteNumber}
@@ -94,7 +95,7 @@ imageRegionAt b index = regionAt (regionsOf b) (regionLength * index)
 
 -- where the hash begins in the element
 abbrev pub rootsHashOffset : ℕ → ℕ → ℕ
-rootsHashOffset hashType index = rootsHeadLength + hashWidth hashType * index
+rootsHashOffset hashType index = rootsHeadLength + hashLength hashType * index
 
 -- ---- certificate slots: the lowest slot, "or CERBERUS_NO_CHAIN if none does"
 

@@ -15,7 +15,7 @@ use Rattle.attestation_log.specs.Texts.{textHistory}
 use Rattle.log_comparison.specs.Comparison.{compareJudgement, pmrComparison, comparisons}
 use Rattle.manifest.specs.declared.Slot.{Slot}
 use Rattle.manifest.specs.Calls.{openNumber, lentNumber, manifestPart}
-use Rattle.elements.specs.Parts.{hashWidth}
+use Rattle.hash.specs.Types.{hashLength}
 use Rattle.elements.specs.SignedImage.{imageHeadLength, imageNumber, imageHash, imageRegions}
 use Rattle.elements.specs.RootCas.{rootsHash, rootsHashNumber}
 use Rattle.cerberus.specs.States.{noSlot, slotOf, numbersOf}
@@ -56,7 +56,7 @@ pub record PartLaws : Type 0 where
       → (take (length (imageHash b)) (drop imageHeadLength b) ≡ imageHash b) × (drop (imageHeadLength + length (imageHash b)) b ≡ imageRegions b)
   -- "Hash index, from 0: the *hash_len bytes of element from *offset on"
   pub hash : (hashType : ℕ) (b : List ℕ) (index : ℕ) → rootsHashNumber hashType b index ≡ 0
-      → take (hashWidth hashType) (drop (rootsHashOffset hashType index) b) ≡ rootsHash hashType b index
+      → take (hashLength hashType) (drop (rootsHashOffset hashType index) b) ≡ rootsHash hashType b index
 
 -- ---- how two logs compare
 

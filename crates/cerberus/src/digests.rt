@@ -1,9 +1,12 @@
-// SHA-256 and HMAC-SHA-256.
+// Hashes, and HMAC-SHA-256.
 use hmac::hmac_sha256;
 use refusal::Verdict;
 use sha256::sha256;
+use sha512::sha384;
+use sha512::sha512;
 ghost use mathlib.Core.Path.{_≡_};
 ghost use Rattle.refusal.specs.Rules.{accepted_then_else_};
+ghost use Rattle.fips180.specs.Sha512.{«sha384», «sha512»};
 ghost use Rattle.sha256.specs.Sha256.{sha256Number, sha256Digest};
 ghost use Rattle.hmac.specs.HmacSha256.{hmacNumber, hmacMac};
 
@@ -22,6 +25,26 @@ pub extern "C" fn cerberus_sha256(message: &[u8], digest: &mut [u8; 32]) -> u8
             0
         }
     }
+}
+
+#[no_mangle]
+pub extern "C" fn cerberus_sha384(message: &[u8], digest: &mut [u8; 48]) -> u8
+    ensures number { λ r. ⌜ r ≡ 0 ⌝ }
+    ensures digest { λ _. ⌜ now (digest .exit) ≡ «sha384» (now (message .entry)) ⌝ }
+{
+    let bytes = sha384(message);
+    *digest = bytes;
+    0
+}
+
+#[no_mangle]
+pub extern "C" fn cerberus_sha512(message: &[u8], digest: &mut [u8; 64]) -> u8
+    ensures number { λ r. ⌜ r ≡ 0 ⌝ }
+    ensures digest { λ _. ⌜ now (digest .exit) ≡ «sha512» (now (message .entry)) ⌝ }
+{
+    let bytes = sha512(message);
+    *digest = bytes;
+    0
 }
 
 #[no_mangle]

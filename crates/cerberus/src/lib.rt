@@ -3,6 +3,7 @@
 pub mod binding;
 pub mod comparisons;
 pub mod digests;
+pub mod hashes;
 pub mod images;
 pub mod log;
 mod log_states;

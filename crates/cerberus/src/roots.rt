@@ -5,7 +5,7 @@ use refusal::Refusal;
 use refusal::Verdict;
 ghost use mathlib.Core.Path.{_≡_};
 ghost use Rattle.refusal.specs.Rules.{accepted_then_else_};
-ghost use Rattle.elements.specs.Parts.{hashWidth};
+ghost use Rattle.hash.specs.Types.{hashLength};
 ghost use Rattle.elements.specs.RootCas.{rootCountOf, rootsNumber, rootsHashNumber, rootsWriteNumber, rootsWritten};
 ghost use Rattle.cerberus.specs.Calls.{rootsHashOffset};
 
@@ -18,7 +18,7 @@ pub extern "C" fn cerberus_root_cas_read(
 ) -> u8
     ensures number { λ r. ⌜ r ≡ rootsNumber «hash_type» (now (element .entry)) ⌝ }
     ensures count { λ _. ⌜ now (count .exit) ≡ (accepted rootsNumber «hash_type» (now (element .entry)) then rootCountOf (now (element .entry)) else now (count .entry)) ⌝ }
-    ensures width { λ _. ⌜ now («hash_len» .exit) ≡ (accepted rootsNumber «hash_type» (now (element .entry)) then hashWidth «hash_type» else now («hash_len» .entry)) ⌝ }
+    ensures width { λ _. ⌜ now («hash_len» .exit) ≡ (accepted rootsNumber «hash_type» (now (element .entry)) then hashLength «hash_type» else now («hash_len» .entry)) ⌝ }
 {
     let read = RootCas::read(hash_type, element);
     match read {
@@ -42,7 +42,7 @@ pub extern "C" fn cerberus_root_cas_hash(
 ) -> u8
     ensures number { λ r. ⌜ r ≡ rootsHashNumber «hash_type» (now (element .entry)) index ⌝ }
     ensures offset { λ _. ⌜ now (offset .exit) ≡ (accepted rootsHashNumber «hash_type» (now (element .entry)) index then rootsHashOffset «hash_type» index else now (offset .entry)) ⌝ }
-    ensures width { λ _. ⌜ now («hash_len» .exit) ≡ (accepted rootsHashNumber «hash_type» (now (element .entry)) index then hashWidth «hash_type» else now («hash_len» .entry)) ⌝ }
+    ensures width { λ _. ⌜ now («hash_len» .exit) ≡ (accepted rootsHashNumber «hash_type» (now (element .entry)) index then hashLength «hash_type» else now («hash_len» .entry)) ⌝ }
 {
     let verdict = RootCas::hash_verdict(hash_type, element, index);
     let Verdict::Accepted = verdict else {

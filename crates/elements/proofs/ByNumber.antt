@@ -12,7 +12,8 @@ use Rattle.octets.specs.Octets.{numberAt}
 use Rattle.refusal.specs.Rules.{reply}
 use Rattle.refusal.proofs.Tests.{or-no}
 use Rattle.refusal.proofs.Laws.{accepted-yes}
-use Rattle.elements.specs.Parts.{item, hashWidth}
+use Rattle.hash.specs.Types.{hashLength}
+use Rattle.elements.specs.Parts.{item}
 use Rattle.elements.specs.Region.{regionLength, regionUnsound, regionAt, regionNumber, regionsUnsound}
 use Rattle.elements.specs.SignedImage.{regionCountOf, regionsOf, imageNumber, imageRegion}
 use Rattle.elements.specs.RootCas.{rootsHeadLength, rootCountOf, rootsNumber, rootsHash, rootsHashNumber}
@@ -76,18 +77,18 @@ region-none b i h =
 -- ---- hashes
 
 hash-shown : (hashType : ℕ) (b : List ℕ) (i : ℕ) → rootsHashNumber hashType b i ≡ 0
-    → (length (rootsHash hashType b i) ≡ hashWidth hashType)
-    × (rootsHash hashType b i ≡ take (hashWidth hashType) (drop (rootsHeadLength + hashWidth hashType * i) b))
+    → (length (rootsHash hashType b i) ≡ hashLength hashType)
+    × (rootsHash hashType b i ≡ take (hashLength hashType) (drop (rootsHeadLength + hashLength hashType * i) b))
 hash-shown t b i e =
     let k = hash-accepted t b i e in
-    let w : ℕ = hashWidth t in
+    let w : ℕ = hashLength t in
     let shown : rootsHash t b i ≡ item w (drop 4 b) i = ap (λ (l : List ℕ). item w l i) (accepted-yes (drop 4 b) [] (k .0)) in (
       ap length shown ∙ item-length w (rootCountOf b) (drop 4 b) i (hashes-length t b (roots-element t b (k .0))) (k .1),
       shown ∙ ap (take w) (drop-drop (w * i) 4 b),
     )
 
 hash-none : (hashType : ℕ) (b : List ℕ) (i : ℕ) → (rootsHashNumber hashType b i ≡ 0 → ⊥) → rootsHash hashType b i ≡ []
-hash-none t b i h = shown-none (hashWidth t) (rootCountOf b) (drop 4 b) i (rootsNumber t b) (λ e. hashes-length t b (roots-element t b e)) (λ e l. h (hash-there t b i e l))
+hash-none t b i h = shown-none (hashLength t) (rootCountOf b) (drop 4 b) i (rootsNumber t b) (λ e. hashes-length t b (roots-element t b e)) (λ e l. h (hash-there t b i e l))
 
 pub by-number : ByNumber
 by-number = record { region-shown = region-shown; region-none = region-none; hash-shown = hash-shown; hash-none = hash-none }

@@ -11,7 +11,8 @@ use lib.Seq.{length-take-le, take-at, drop-at, drop-drop}
 use Rattle.octets.specs.Octets.{Bytes}
 use Rattle.refusal.specs.Rules.{reply}
 use Rattle.refusal.proofs.Laws.{accepted-yes}
-use Rattle.elements.specs.Parts.{writeNumber, itemCount, hashWidth}
+use Rattle.hash.specs.Types.{hashLength}
+use Rattle.elements.specs.Parts.{writeNumber, itemCount}
 use Rattle.elements.specs.Region.{regionLength, regionsUnsound}
 use Rattle.elements.specs.SignedImage.{imageHeadLength, imageLength, hashTypeOf, regionCountOf, mustValidateOf, hashOf, regionsOf, imageFaults, imageNumber, imageFields, imageHash, imageRegions, imageFieldFaults, imageFieldsMalformed, imageBytes, imageWriteNumber, imageWritten}
 use Rattle.refusal.proofs.Tests.{any-no, no-any, equal-no, no-equal}
@@ -23,7 +24,7 @@ use Rattle.elements.proofs.Heads.{four-and-rest, flag-back, flag-small,
 
 pub record ImageSound (hashType : ℕ) (hash regions : List ℕ) : Type 0 where
   pub known : hashType ≤ 2
-  pub hash-length : length hash ≡ hashWidth hashType
+  pub hash-length : length hash ≡ hashLength hashType
   pub items : GoodItems regionLength regions
   pub sound : regionsUnsound regions (itemCount regionLength regions) ≡ false
 
@@ -51,7 +52,7 @@ image-writes t hash regions buffer e =
 
 -- the element's length, by the hash's type or by the hash: the two are the same in sound fields
 pub image-length : (hashType : ℕ) (hash regions : List ℕ) (buffer : ℕ)
-    → writeNumber (imageFieldsMalformed hashType hash regions) (imageHeadLength + hashWidth hashType + length regions) buffer
+    → writeNumber (imageFieldsMalformed hashType hash regions) (imageHeadLength + hashLength hashType + length regions) buffer
     ≡ writeNumber (imageFieldsMalformed hashType hash regions) (imageHeadLength + length hash + length regions) buffer
 image-length t hash regions buffer =
     length-if-sound (imageFieldsMalformed t hash regions) _ _ buffer
@@ -97,15 +98,15 @@ module _ (t : ℕ) (m : Bool) (hash regions : List ℕ) (k : ImageSound t hash r
   type-back : hashTypeOf (imageBytes t m hash regions) ≡ t
   type-back = omega (arith, k .known)
 
-  width-back : hashWidth (hashTypeOf (imageBytes t m hash regions)) ≡ length hash
-  width-back = ap hashWidth type-back ∙ sym (k .hash-length)
+  width-back : hashLength (hashTypeOf (imageBytes t m hash regions)) ≡ length hash
+  width-back = ap hashLength type-back ∙ sym (k .hash-length)
 
   hash-back : hashOf (imageBytes t m hash regions) ≡ hash
   hash-back = take-at hash regions _ (sym width-back)
 
   regions-back : regionsOf (imageBytes t m hash regions) ≡ regions
   regions-back =
-      sym (drop-drop (hashWidth (hashTypeOf (imageBytes t m hash regions))) 4 (imageBytes t m hash regions))
+      sym (drop-drop (hashLength (hashTypeOf (imageBytes t m hash regions))) 4 (imageBytes t m hash regions))
       ∙ drop-at hash regions _ (sym width-back)
 
   element-back : ImageElement (imageBytes t m hash regions)
@@ -142,10 +143,10 @@ image-back t m hash regions buffer e =
 
 module _ (b : List ℕ) (k : ImageElement b) where
   pub regions-length : length (regionsOf b) ≡ regionLength * regionCountOf b
-  regions-length = omega (arith, length-drop (4 + hashWidth (hashTypeOf b)) b, k .long)
+  regions-length = omega (arith, length-drop (4 + hashLength (hashTypeOf b)) b, k .long)
 
-  hash-length : length (hashOf b) ≡ hashWidth (hashTypeOf b)
-  hash-length = length-take-le (hashWidth (hashTypeOf b)) (drop 4 b) (omega (arith, length-drop 4 b, k .long))
+  hash-length : length (hashOf b) ≡ hashLength (hashTypeOf b)
+  hash-length = length-take-le (hashLength (hashTypeOf b)) (drop 4 b) (omega (arith, length-drop 4 b, k .long))
 
   fields-again : Bytes b → ImageSound (hashTypeOf b) (hashOf b) (regionsOf b)
   fields-again y =
@@ -161,7 +162,7 @@ module _ (b : List ℕ) (k : ImageElement b) where
       let type : hashTypeOf b ≡ getD b 0 0 = omega (arith, k .high) in
       let count = counted regionLength (regionCountOf b) (regionsOf b) (lit< tt) regions-length in
       let rest : hashOf b ++ regionsOf b ≡ drop 4 b =
-      ap (λ (l : List ℕ). hashOf b ++ l) (sym (drop-drop (hashWidth (hashTypeOf b)) 4 b)) ∙ take-append-drop (hashWidth (hashTypeOf b)) (drop 4 b) in
+      ap (λ (l : List ℕ). hashOf b ++ l) (sym (drop-drop (hashLength (hashTypeOf b)) 4 b)) ∙ take-append-drop (hashLength (hashTypeOf b)) (drop 4 b) in
       (λ i. type i ∷ count i ∷ flag-again (getD b 2 0) (k .flag) i ∷ sym (k .zero3) i ∷ rest i)
       ∙ sym (four-and-rest b (omega (arith, k .long)))
 

@@ -4,7 +4,7 @@ use mathlib.Core.Path.{_≡_, refl, sym, ap, subst, _∙_}
 use mathlib.Core.Bool.{true, false, or-true}
 use mathlib.Core.List.{List, []}
 use native.Mathlib.Omega.{arith}
-use native.Mathlib.Nat.{mul-le-mul-left, mul-suc, mul-div-le, mul-div-right, mul-mod-right, lt-mul-div-succ, div-add-mod, div-zero, add-zero, le-trans, zero-lt-suc}
+use native.Mathlib.Nat.{mul-le-mul, mul-le-mul-left, mul-suc, mul-div-le, mul-div-right, mul-mod-right, lt-mul-div-succ, div-add-mod, div-zero, add-zero, le-trans, zero-lt-suc}
 use borrow.Author.Tests.{eq-eqb, ne-eqb, eqb-false, le-ltb, ltb-false}
 use lib.ListN.{length, take, drop, length-drop, drop-of-length-le}
 use lib.Seq.{length-take-le, take-all, take-nil, drop-nil}
@@ -79,3 +79,7 @@ pub items-of : (w n : ℕ) (l : List ℕ) → 0 < w → length l ≡ w * n → (
 items-of w n l p e some few =
     let c : itemCount w l ≡ n = counted w n l p e in
     record { whole = e ∙ ap (λ (k : ℕ). w * k) (sym c); some = λ z. some (sym c ∙ z); few = omega (arith, c) }
+
+-- a count of one byte of hashes
+pub hashes-small : (w n : ℕ) → w ≤ 64 → n ≤ 255 → w * n ≤ 16320
+hashes-small w n h k = mul-le-mul h k

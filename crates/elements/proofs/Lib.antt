@@ -1,6 +1,5 @@
 pub mod Verdicts
 pub mod Filled
-pub mod HashWidths
 pub mod Items
 pub mod Heads
 pub mod Regions

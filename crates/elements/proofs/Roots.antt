@@ -10,11 +10,12 @@ use lib.ListN.{length, getD, drop, length-drop}
 use Rattle.octets.specs.Octets.{Bytes}
 use Rattle.refusal.specs.Rules.{_when_else_, first_then_, reply}
 use Rattle.refusal.proofs.Laws.{first-yes, when-no, first-accepted, when-accepted, accepted-yes}
-use Rattle.elements.specs.Parts.{readNumber, itemCount, hashWidth}
+use Rattle.hash.specs.Types.{hashLength}
+use Rattle.elements.specs.Parts.{readNumber, itemCount}
 use Rattle.elements.specs.RootCas.{rootsHeadLength, rootCountOf, rootsFaults, rootsNumber, rootsFields, rootsHashes, rootsHashNumber, rootsFieldFaults, rootsFieldsMalformed, rootsBytes, rootsWriteNumber, rootsWritten}
 use Rattle.refusal.proofs.Tests.{any-no, no-any, equal-no, no-equal}
 use Rattle.elements.proofs.Verdicts.{read-yes, read-accepted, write-yes, write-accepted}
-use Rattle.elements.proofs.HashWidths.{width-positive}
+use Rattle.hash.proofs.Types.{length-positive}
 use Rattle.elements.proofs.Items.{GoodItems, good-items, items-good, items-of, counted}
 use Rattle.elements.proofs.Heads.{four-and-rest}
 
@@ -22,13 +23,13 @@ use Rattle.elements.proofs.Heads.{four-and-rest}
 
 pub record RootsSound (hashType : ℕ) (hashes : List ℕ) : Type 0 where
   pub known : hashType ≤ 2
-  pub items : GoodItems (hashWidth hashType) hashes
+  pub items : GoodItems (hashLength hashType) hashes
 
 roots-sound : (hashType : ℕ) (hashes : List ℕ) → rootsFieldsMalformed hashType hashes ≡ false → RootsSound hashType hashes
 unfolding rootsFieldsMalformed
 roots-sound t hashes e =
     let p = any-no (rootsFieldFaults t hashes) e in
-    record { known = ltb-false 2 t (p .0); items = good-items (hashWidth t) hashes (p .1 .0) }
+    record { known = ltb-false 2 t (p .0); items = good-items (hashLength t) hashes (p .1 .0) }
 
 pub roots-writes : (hashType : ℕ) (hashes buffer : List ℕ) → rootsWriteNumber hashType hashes buffer ≡ 0
     → RootsSound hashType hashes × (length buffer ≡ rootsHeadLength + length hashes)
@@ -38,12 +39,12 @@ roots-writes t hashes buffer e =
 
 sound-roots : (hashType : ℕ) (hashes : List ℕ) → RootsSound hashType hashes → rootsFieldsMalformed hashType hashes ≡ false
 unfolding rootsFieldsMalformed
-sound-roots t hashes k = no-any (rootsFieldFaults t hashes) (le-ltb 2 t (k .known), (items-good (hashWidth t) hashes (k .items), tt))
+sound-roots t hashes k = no-any (rootsFieldFaults t hashes) (le-ltb 2 t (k .known), (items-good (hashLength t) hashes (k .items), tt))
 
 -- ---- an element that the reader accepts
 
 pub record RootsElement (hashType : ℕ) (b : List ℕ) : Type 0 where
-  pub long : length b ≡ rootsHeadLength + hashWidth hashType * rootCountOf b
+  pub long : length b ≡ rootsHeadLength + hashLength hashType * rootCountOf b
   pub known : hashType ≤ 2
   pub some : rootCountOf b ≡ 0 → ⊥
   pub zero1 : getD b 1 0 ≡ 0
@@ -100,13 +101,13 @@ hash-accepted t b i e =
 
 pub roots-back : (hashType : ℕ) (hashes buffer : List ℕ) → rootsWriteNumber hashType hashes buffer ≡ 0
     → (reply (rootsNumber hashType (rootsWritten hashType hashes buffer)) (rootsFields (rootsWritten hashType hashes buffer))
-    ≡ reply 0 (record { count = itemCount (hashWidth hashType) hashes }))
+    ≡ reply 0 (record { count = itemCount (hashLength hashType) hashes }))
     × (rootsHashes hashType (rootsWritten hashType hashes buffer) ≡ hashes)
 roots-back t hashes buffer e =
     let k = roots-writes t hashes buffer e .0 in
     let b : List ℕ = rootsBytes t hashes in
     let w : rootsWritten t hashes buffer ≡ b = accepted-yes b buffer e in
-    let long : length b ≡ rootsHeadLength + hashWidth t * rootCountOf b = omega (arith, k .items .whole) in
+    let long : length b ≡ rootsHeadLength + hashLength t * rootCountOf b = omega (arith, k .items .whole) in
     let yes : rootsNumber t b ≡ 0 =
     roots-accepted t b (record { known = k .known; long = long; some = k .items .some; zero1 = refl; zero2 = refl; zero3 = refl }) in (
       ap (λ (l : List ℕ). reply (rootsNumber t l) (rootsFields l)) w ∙ (λ i. reply (yes i) (rootsFields b)),
@@ -116,16 +117,16 @@ roots-back t hashes buffer e =
 -- ---- what is read is written again
 
 module _ (t : ℕ) (b : List ℕ) (k : RootsElement t b) where
-  pub hashes-length : length (drop 4 b) ≡ hashWidth t * rootCountOf b
+  pub hashes-length : length (drop 4 b) ≡ hashLength t * rootCountOf b
   hashes-length = omega (arith, length-drop 4 b, k .long)
 
   fields-again : Bytes b → RootsSound t (drop 4 b)
   fields-again y =
-      record { known = k .known; items = items-of (hashWidth t) (rootCountOf b) (drop 4 b) (width-positive t (k .known)) hashes-length (k .some) (y 0) }
+      record { known = k .known; items = items-of (hashLength t) (rootCountOf b) (drop 4 b) (length-positive t (k .known)) hashes-length (k .some) (y 0) }
 
   bytes-again : rootsBytes t (drop 4 b) ≡ b
   bytes-again =
-      let count = counted (hashWidth t) (rootCountOf b) (drop 4 b) (width-positive t (k .known)) hashes-length in
+      let count = counted (hashLength t) (rootCountOf b) (drop 4 b) (length-positive t (k .known)) hashes-length in
       (λ i. count i ∷ sym (k .zero1) i ∷ sym (k .zero2) i ∷ sym (k .zero3) i ∷ drop 4 b)
       ∙ sym (four-and-rest b (omega (arith, k .long)))
 

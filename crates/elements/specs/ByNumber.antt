@@ -5,7 +5,7 @@ use mathlib.Core.Path.{_≡_}
 use mathlib.Core.List.{List, []}
 use lib.ListN.{length, take, drop}
 use Rattle.refusal.specs.Rules.{reply}
-use Rattle.elements.specs.Parts.{hashWidth}
+use Rattle.hash.specs.Types.{hashLength}
 use Rattle.elements.specs.Region.{regionLength, regionAt}
 use Rattle.elements.specs.SignedImage.{regionCountOf, regionsOf, imageNumber, imageRegion}
 use Rattle.elements.specs.RootCas.{rootsHeadLength, rootsHash, rootsHashNumber}
@@ -14,6 +14,6 @@ pub record ByNumber : Type 0 where
   pub region-shown : (b : List ℕ) (i : ℕ) → imageNumber b ≡ 0 → i < regionCountOf b → imageRegion b i ≡ reply 0 (regionAt (regionsOf b) (regionLength * i))
   pub region-none : (b : List ℕ) (i : ℕ) → (imageNumber b ≡ 0 → i < regionCountOf b → ⊥) → imageRegion b i ≡ record { number = 12; values = [] }
   pub hash-shown : (hashType : ℕ) (b : List ℕ) (i : ℕ) → rootsHashNumber hashType b i ≡ 0
-      → (length (rootsHash hashType b i) ≡ hashWidth hashType)
-      × (rootsHash hashType b i ≡ take (hashWidth hashType) (drop (rootsHeadLength + hashWidth hashType * i) b))
+      → (length (rootsHash hashType b i) ≡ hashLength hashType)
+      × (rootsHash hashType b i ≡ take (hashLength hashType) (drop (rootsHeadLength + hashLength hashType * i) b))
   pub hash-none : (hashType : ℕ) (b : List ℕ) (i : ℕ) → (rootsHashNumber hashType b i ≡ 0 → ⊥) → rootsHash hashType b i ≡ []

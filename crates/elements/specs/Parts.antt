@@ -1,6 +1,6 @@
 -- Document 01, "Elements of the PFM": what the elements share. A field that breaks a rule is 12; a writer gives 12 and then 3.
 use Prim.Native.Nat.{ℕ, _*_, _/_, _%_}
-use mathlib.Core.Bool.{Bool, not, cond}
+use mathlib.Core.Bool.{Bool, not}
 use mathlib.Core.List.{List, [], _∷_}
 use lib.ListN.{length, take, drop}
 use lib.Dec.{ltb, eqb}
@@ -46,11 +46,3 @@ itemFaults w l =
 
 abbrev pub badItems : ℕ → List ℕ → Bool
 badItems w l = any (itemFaults w l)
-
--- "hash type (0, 1, 2 for 32, 48, 64 bytes)"
-abbrev pub hashWidth : ℕ → ℕ
-hashWidth hashType = cond (eqb hashType 0) 32 (cond (eqb hashType 1) 48 (cond (eqb hashType 2) 64 0))
-
--- "a hash type above 2 (also one that the caller gives)"
-abbrev pub badHashType : ℕ → Bool
-badHashType hashType = ltb 2 hashType

@@ -5,10 +5,11 @@ use mathlib.Core.List.{List, [], _∷_, _++_}
 use lib.ListN.{length, getD, drop}
 use lib.Dec.{leb, eqb}
 use Rattle.refusal.specs.Rules.{_when_else_, first_then_, Reply, any}
+use Rattle.hash.specs.Types.{hashLength, badHashType}
 use Rattle.elements.specs.declared.root_cas.RootCas.{RootCas}
 use Rattle.elements.specs.declared.root_cas.RootCasRead.{RootCasRead}
 use Rattle.elements.specs.declared.root_cas.RootCasRead.the-variants.{Read, Malformed}
-use Rattle.elements.specs.Parts.{readNumber, writeNumber, writtenBy, shownPart, item, itemCount, badItems, hashWidth, badHashType}
+use Rattle.elements.specs.Parts.{readNumber, writeNumber, writtenBy, shownPart, item, itemCount, badItems}
 
 -- the bytes before the hashes
 abbrev pub rootsHeadLength : ℕ
@@ -25,7 +26,7 @@ rootsReply Malformed = record { number = 12; values = [] }
 
 abbrev pub rootsFaults : ℕ → List ℕ → List Bool
 rootsFaults hashType b =
-    not (eqb (length b) (rootsHeadLength + hashWidth hashType * rootCountOf b))
+    not (eqb (length b) (rootsHeadLength + hashLength hashType * rootCountOf b))
     ∷ badHashType hashType
     ∷ eqb (rootCountOf b) 0
     ∷ not (eqb (getD b 1 0) 0)
@@ -44,7 +45,7 @@ rootsHashes hashType b = shownPart (rootsNumber hashType b) (drop rootsHeadLengt
 
 -- hash i, from 0: empty where the element is malformed or has no such hash
 abbrev pub rootsHash : ℕ → List ℕ → ℕ → List ℕ
-rootsHash hashType b i = item (hashWidth hashType) (rootsHashes hashType b) i
+rootsHash hashType b i = item (hashLength hashType) (rootsHashes hashType b) i
 
 -- "a companion call on the same inputs gives the number"
 unfoldable pub rootsHashNumber : ℕ → List ℕ → ℕ → ℕ
@@ -58,14 +59,14 @@ rootsHashNumber hashType b i =
 abbrev pub rootsFieldFaults : ℕ → List ℕ → List Bool
 rootsFieldFaults hashType hashes =
     badHashType hashType
-    ∷ badItems (hashWidth hashType) hashes
+    ∷ badItems (hashLength hashType) hashes
     ∷ []
 
 unfoldable pub rootsFieldsMalformed : ℕ → List ℕ → Bool
 rootsFieldsMalformed hashType hashes = any (rootsFieldFaults hashType hashes)
 
 abbrev pub rootsBytes : ℕ → List ℕ → List ℕ
-rootsBytes hashType hashes = (itemCount (hashWidth hashType) hashes ∷ 0 ∷ 0 ∷ 0 ∷ []) ++ hashes
+rootsBytes hashType hashes = (itemCount (hashLength hashType) hashes ∷ 0 ∷ 0 ∷ 0 ∷ []) ++ hashes
 
 abbrev pub rootsWriteNumber : ℕ → List ℕ → List ℕ → ℕ
 rootsWriteNumber hashType hashes buffer =

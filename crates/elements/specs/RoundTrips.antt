@@ -7,9 +7,10 @@ use mathlib.Core.List.{List}
 use lib.ListN.{length}
 use Rattle.octets.specs.Octets.{Bytes}
 use Rattle.refusal.specs.Rules.{reply}
+use Rattle.hash.specs.Types.{hashLength}
 use Rattle.elements.specs.declared.region.Region.{Region}
 use Rattle.elements.specs.declared.rw_region.RwRegion.{RwRegion}
-use Rattle.elements.specs.Parts.{itemCount, hashWidth}
+use Rattle.elements.specs.Parts.{itemCount}
 use Rattle.elements.specs.Region.{Addresses, regionLength, regionAt, regionNumber, regionWriteNumber, regionWritten}
 use Rattle.elements.specs.RwRegion.{rwFieldsOf, rwRegionFields, rwRegionNumber, rwRegionWriteNumber, rwRegionWritten}
 use Rattle.elements.specs.SignedImage.{hashTypeOf, mustValidateOf, imageFields, imageNumber, imageHash, imageRegions, imageWriteNumber, imageWritten}
@@ -39,7 +40,7 @@ pub record RoundTrips : Type 0 where
   -- root CAs: count and hashes
   pub roots-back : (hashType : ℕ) (hashes buffer : List ℕ) → rootsWriteNumber hashType hashes buffer ≡ 0
       → (reply (rootsNumber hashType (rootsWritten hashType hashes buffer)) (rootsFields (rootsWritten hashType hashes buffer))
-      ≡ reply 0 (record { count = itemCount (hashWidth hashType) hashes }))
+      ≡ reply 0 (record { count = itemCount (hashLength hashType) hashes }))
       × (rootsHashes hashType (rootsWritten hashType hashes buffer) ≡ hashes)
   pub roots-again : (hashType : ℕ) (b buffer : List ℕ) → Bytes b → rootsNumber hashType b ≡ 0 → length buffer ≡ length b
       → (rootsWriteNumber hashType (rootsHashes hashType b) buffer ≡ 0) × (rootsWritten hashType (rootsHashes hashType b) buffer ≡ b)

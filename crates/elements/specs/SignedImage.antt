@@ -6,11 +6,12 @@ use mathlib.Core.List.{List, [], _∷_, _++_}
 use lib.ListN.{length, getD, take, drop}
 use lib.Dec.{eqb}
 use Rattle.refusal.specs.Rules.{Reply, reply, any}
+use Rattle.hash.specs.Types.{hashLength, badHashType}
 use Rattle.elements.specs.declared.region.Region.{Region}
 use Rattle.elements.specs.declared.signed_image.SignedImage.{SignedImage}
 use Rattle.elements.specs.declared.signed_image.SignedImageRead.{SignedImageRead}
 use Rattle.elements.specs.declared.signed_image.SignedImageRead.the-variants.{Read, Malformed}
-use Rattle.elements.specs.Parts.{readNumber, writeNumber, writtenBy, shownPart, item, itemCount, badItems, hashWidth, badHashType}
+use Rattle.elements.specs.Parts.{readNumber, writeNumber, writtenBy, shownPart, item, itemCount, badItems}
 use Rattle.elements.specs.Region.{regionLength, regionAt, regionNumber, regionsUnsound}
 
 -- the bytes before the hash
@@ -19,7 +20,7 @@ imageHeadLength = 4
 
 -- the length of an element with this hash type and so many regions
 abbrev pub imageLength : ℕ → ℕ → ℕ
-imageLength hashType count = imageHeadLength + hashWidth hashType + regionLength * count
+imageLength hashType count = imageHeadLength + hashLength hashType + regionLength * count
 
 -- ---- the fields as they stand in an element b
 
@@ -33,10 +34,10 @@ abbrev pub mustValidateOf : List ℕ → Bool
 mustValidateOf b = eqb (getD b 2 0 % 2) 1
 
 abbrev pub hashOf : List ℕ → List ℕ
-hashOf b = take (hashWidth (hashTypeOf b)) (drop imageHeadLength b)
+hashOf b = take (hashLength (hashTypeOf b)) (drop imageHeadLength b)
 
 abbrev pub regionsOf : List ℕ → List ℕ
-regionsOf b = drop (imageHeadLength + hashWidth (hashTypeOf b)) b
+regionsOf b = drop (imageHeadLength + hashLength (hashTypeOf b)) b
 
 -- ---- the readers
 
@@ -78,7 +79,7 @@ imageRegion b i = reply (regionNumber (item regionLength (imageRegions b) i)) (r
 abbrev pub imageFieldFaults : ℕ → List ℕ → List ℕ → List Bool
 imageFieldFaults hashType hash regions =
     badHashType hashType
-    ∷ not (eqb (length hash) (hashWidth hashType))
+    ∷ not (eqb (length hash) (hashLength hashType))
     ∷ badItems regionLength regions
     ∷ regionsUnsound regions (itemCount regionLength regions)
     ∷ []

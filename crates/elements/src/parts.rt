@@ -1,11 +1,10 @@
-// What the elements share: parts of a slice, runs of items of one width, hash types, and a writer's verdict.
+// What the elements share: parts of a slice, runs of items of one width, and a writer's verdict.
 use refusal::Refusal;
 use refusal::Verdict;
 ghost use mathlib.Core.Path.{_≡_};
-ghost use Prim.Native.Nat.{_≤_};
 ghost use lib.ListN.{take, drop};
 ghost use Rattle.refusal.specs.Number.{numberOf};
-ghost use Rattle.elements.specs.Parts.{writeNumber, item, itemCount, badItems, hashWidth};
+ghost use Rattle.elements.specs.Parts.{writeNumber, item, itemCount, badItems};
 
 // The bytes from index at on: none where the slice ends before.
 pub(crate) fn bytes_from(b: &[u8], at: usize) -> &[u8]
@@ -57,19 +56,6 @@ pub(crate) fn bad_items(run: &[u8], width: usize) -> bool
     }
     let count = item_count(run, width);
     (run.len() % width != 0) | (count == 0) | (255 < count)
-}
-
-// The bytes of a hash of this type; 0 for a type that isn't defined.
-pub(crate) fn hash_width(hash_type: u8) -> usize
-    ensures width { λ r. ⌜ r ≡ hashWidth «hash_type» ⌝ }
-    ensures bound { λ r. ⌜ r ≤ 64 ⌝ }
-{
-    match hash_type {
-        0 => 32,
-        1 => 48,
-        2 => 64,
-        _ => 0,
-    }
 }
 
 // A writer's verdict on its fields, and then on the length of its buffer, which only sound fields have.

@@ -1,5 +1,6 @@
 // The root CAs of a CFM (002, RootCAs): hashes of the root certificates that are trusted. The type of the hashes is the manifest's, and the caller gives it.
 use crate::parts;
+use hash::hash_length;
 use refusal::Refusal;
 use refusal::Verdict;
 ghost use mathlib.Core.Path.{_≡_};
@@ -50,7 +51,7 @@ impl RootCas {
         ensures { λ r. ⌜ now r ≡ rootsHash «hash_type» (now (element .entry)) i ⌝ }
     {
         let hashes = RootCas::hashes(hash_type, element);
-        parts::item(hashes, parts::hash_width(hash_type), i)
+        parts::item(hashes, hash_length(hash_type), i)
     }
 
     // The companion of `hash` on the same inputs: 12 where that part is empty.
@@ -72,7 +73,7 @@ impl RootCas {
         let Verdict::Accepted = verdict else {
             return verdict;
         };
-        let count = parts::item_count(hashes, parts::hash_width(hash_type)) as u8;
+        let count = parts::item_count(hashes, hash_length(hash_type)) as u8;
         let head = [count, 0, 0, 0];
         octets::put(buffer, 0, &head);
         octets::put(buffer, RootCas::HEAD_LEN, hashes);
@@ -84,7 +85,7 @@ impl RootCas {
     {
         let count = octets::byte_at(element, 0);
         let n = count as usize;
-        let width = parts::hash_width(hash_type);
+        let width = hash_length(hash_type);
         (element.len() != RootCas::HEAD_LEN + width * n)
             | (2 < hash_type)
             | (count == 0)
@@ -96,7 +97,7 @@ impl RootCas {
     fn fields_malformed(hash_type: u8, hashes: &[u8]) -> bool
         ensures { λ r. ⌜ r ≡ rootsFieldsMalformed «hash_type» (now (hashes .entry)) ⌝ }
     {
-        (2 < hash_type) | parts::bad_items(hashes, parts::hash_width(hash_type))
+        (2 < hash_type) | parts::bad_items(hashes, hash_length(hash_type))
     }
 
     fn write_verdict(hash_type: u8, hashes: &[u8], buffer_len: usize) -> Verdict

@@ -2,6 +2,7 @@
 use crate::parts;
 use crate::region::Region;
 use crate::region::RegionRead;
+use hash::hash_length;
 use refusal::Verdict;
 ghost use mathlib.Core.Path.{_≡_};
 ghost use Prim.Native.Nat.{_+_};
@@ -50,7 +51,7 @@ impl SignedImage {
             return &element[..0];
         }
         let rest = parts::bytes_from(element, SignedImage::HEAD_LEN);
-        parts::first_bytes(rest, parts::hash_width(SignedImage::hash_type_of(element)))
+        parts::first_bytes(rest, hash_length(SignedImage::hash_type_of(element)))
     }
 
     // The regions, as a part of the element; empty where the element is malformed.
@@ -60,7 +61,7 @@ impl SignedImage {
         if SignedImage::malformed(element) {
             return &element[..0];
         }
-        let width = parts::hash_width(SignedImage::hash_type_of(element));
+        let width = hash_length(SignedImage::hash_type_of(element));
         parts::bytes_from(element, SignedImage::HEAD_LEN + width)
     }
 
@@ -106,7 +107,7 @@ impl SignedImage {
         let hash_type = SignedImage::hash_type_of(element);
         let count = octets::byte_at(element, 1);
         let n = count as usize;
-        let start = SignedImage::HEAD_LEN + parts::hash_width(hash_type);
+        let start = SignedImage::HEAD_LEN + hash_length(hash_type);
         let regions = parts::bytes_from(element, start);
         (element.len() != start + Region::LEN * n)
             | (octets::byte_at(element, 0) >> 3 != 0)
@@ -120,7 +121,7 @@ impl SignedImage {
     fn fields_malformed(hash_type: u8, hash: &[u8], regions: &[u8]) -> bool
         ensures { λ r. ⌜ r ≡ imageFieldsMalformed «hash_type» (now (hash .entry)) (now (regions .entry)) ⌝ }
     {
-        let width = parts::hash_width(hash_type);
+        let width = hash_length(hash_type);
         if (2 < hash_type) | (hash.len() != width) | parts::bad_items(regions, Region::LEN) {
             return true;
         }
@@ -133,7 +134,7 @@ impl SignedImage {
     {
         let malformed = SignedImage::fields_malformed(hash_type, hash, regions);
         // A sound hash is as long as its type says. The sum with the length of any other hash could be too big for a usize.
-        let start = SignedImage::HEAD_LEN + parts::hash_width(hash_type);
+        let start = SignedImage::HEAD_LEN + hash_length(hash_type);
         parts::write_verdict(malformed, start + regions.len(), buffer_len)
     }
 }

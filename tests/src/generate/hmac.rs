@@ -1,6 +1,6 @@
 //! Keys and texts for HMAC.
 
-use super::sha256::{LIMIT, undefined_len};
+use super::hash::{LIMIT, undefined_len};
 use crate::calls::{Call, Case};
 use crate::rng::Rng;
 

@@ -3,12 +3,12 @@
 
 pub mod comparison;
 pub mod element;
+pub mod hash;
 pub mod hmac;
 pub mod log;
 pub mod log_state;
 pub mod message;
 pub mod pairing;
-pub mod sha256;
 pub mod slot;
 
 use crate::calls::{Call, Case};
@@ -41,7 +41,9 @@ impl Generator {
     pub fn case(&self, call: Call, rng: &mut Rng) -> Case {
         match (call, &self.logs) {
             (Call::Meaning, _) => meaning(rng),
-            (Call::Sha256, _) => sha256::case(rng),
+            (Call::Sha256 | Call::Sha384 | Call::Sha512, _) => hash::of_one_kind(call, rng),
+            (Call::Hash, _) => hash::by_type(rng),
+            (Call::HashMatches, _) => hash::compared(rng),
             (Call::HmacSha256, _) => hmac::case(rng),
             (Call::PairingKey, _) => pairing::case(rng),
             (Call::CertificateSlots, _) => certificate_slots_case(rng.byte(), rng),

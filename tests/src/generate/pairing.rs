@@ -1,6 +1,6 @@
 //! Session keys, and buffers for the pairing key.
 
-use super::sha256::undefined_len;
+use super::hash::undefined_len;
 use super::{absurd_len, hmac, wrong_len};
 use crate::calls::{Call, Case};
 use crate::model::pairing::KEY_LEN;

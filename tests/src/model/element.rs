@@ -1,6 +1,7 @@
 //! The manifest elements and the flash region that two of them hold. Readers refuse 12 alone,
 //! writers 12 and then 3.
 
+use super::hash::hash_len;
 use super::{Answer, Refusal, demand, little_endian};
 
 const REGION_LEN: usize = 8;
@@ -15,16 +16,6 @@ pub struct Region {
 
 fn sound(holds: bool) -> Answer<()> {
     demand(holds, Refusal::MalformedElement)
-}
-
-/// The bytes of a hash of this type.
-pub fn hash_len(hash_type: u8) -> Answer<usize> {
-    match hash_type {
-        0 => Ok(32),
-        1 => Ok(48),
-        2 => Ok(64),
-        _ => Err(Refusal::MalformedElement),
-    }
 }
 
 /// Puts an element into a buffer of exactly its length.

@@ -1,13 +1,11 @@
 //! HMAC-SHA-256 by FIPS 198-1, section 4.
 
-use super::sha256::sha256;
+use super::sha256::{LIMIT, sha256};
 use super::{Answer, Refusal, demand};
 use std::cmp::Ordering;
 
 /// B, the length of SHA-256's block.
 const BLOCK_LEN: usize = 64;
-/// From here on a message has 2^64 bits or more, and FIPS 180-4 defines no digest.
-const LIMIT: u64 = 1 << 61;
 const IPAD: u8 = 0x36;
 const OPAD: u8 = 0x5c;
 

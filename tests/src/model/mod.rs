@@ -1,15 +1,18 @@
-//! Document 01 and document 02, Items 2, 4, 13 and 14, in plain Rust, written from the papers and standards
+//! Document 01 and document 02, Items 2, 4, 8, 13 and 14, in plain Rust, written from the papers and standards
 //! alone. It is slow and plain on purpose: what it does should be seen at once to be what the paper says.
 
 pub mod certificate_slots;
 pub mod comparison;
 pub mod element;
+pub mod hash;
 pub mod hmac;
 pub mod log;
 pub mod meaning;
 pub mod message;
 pub mod pairing;
+pub mod roots;
 pub mod sha256;
+pub mod sha512;
 pub mod slot;
 
 /// Document 01's numbers that say no.

@@ -15,6 +15,9 @@ const K: [u32; 64] = [
 /// Section 5.3.3: the initial hash value.
 const H0: [u32; 8] = [0x6a09e667, 0xbb67ae85, 0x3c6ef372, 0xa54ff53a, 0x510e527f, 0x9b05688c, 0x1f83d9ab, 0x5be0cd19];
 
+/// From here on a message has 2^64 bits or more, and section 5.1.1 has no room for its length.
+pub const LIMIT: u64 = 1 << 61;
+
 /// The digest of a message.
 pub fn sha256(message: &[u8]) -> [u8; 32] {
     let whole = message.len() / 64 * 64;

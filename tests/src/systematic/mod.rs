@@ -3,6 +3,7 @@
 
 pub mod comparison;
 pub mod element;
+pub mod hash;
 pub mod hmac;
 pub mod log;
 pub mod log_state;
@@ -10,7 +11,7 @@ pub mod message;
 pub mod pairing;
 pub mod slot;
 
-use crate::generate::{certificate_slots_case, meaning_case, sha256};
+use crate::generate::{certificate_slots_case, meaning_case};
 use crate::harness::Harness;
 use crate::rng::Rng;
 
@@ -20,16 +21,6 @@ pub fn meanings(harness: &mut Harness, rng: &mut Rng) {
         for len in 0..=100 {
             let text = rng.bytes(len);
             harness.run(meaning_case(number, text, rng));
-        }
-    }
-}
-
-/// Every length of message from 0 to 1,100 with several fillings.
-pub fn messages_to_hash(harness: &mut Harness, rng: &mut Rng) {
-    for len in 0..=1100 {
-        let counting = (0..len).map(|i| i as u8).collect();
-        for message in [vec![0; len], vec![0xff; len], vec![0x80; len], counting, rng.bytes(len)] {
-            harness.run(sha256::of_message(message, rng));
         }
     }
 }

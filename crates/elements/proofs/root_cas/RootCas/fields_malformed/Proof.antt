@@ -13,7 +13,7 @@ returns : tie.Need-returns
 unfolding rootsFieldsMalformed
 returns c =
     let a = c .before .before .before .args in
-    ap (λ (u : Bool). ltb 2 (a .hash-type) || u) (c .bad-items .ensures ∙ ap (λ (w : ℕ). badItems w (a .hashes .now)) (c .before .hash-width .ensures .0))
+    ap (λ (u : Bool). ltb 2 (a .hash-type) || u) (c .bad-items .ensures ∙ ap (λ (w : ℕ). badItems w (a .hashes .now)) (c .before .hash-length .ensures .0))
 
 pub fields-malformed-spec : {M : Type 1} → statement M
 fields-malformed-spec = tie.close

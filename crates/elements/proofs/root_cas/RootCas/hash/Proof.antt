@@ -5,7 +5,7 @@ use Rattle.elements.proofs.root_cas.RootCas.hash.Statement.{statement}
 use Rattle.elements.proofs.root_cas.RootCas.hash.Tie as tie
 
 returns : tie.Need-returns
-returns c = c .item .ensures ∙ (λ i. item (c .before .hash-width .ensures .0 i) (c .before .before .hashes .ensures i) (c .before .before .before .before .args .i))
+returns c = c .item .ensures ∙ (λ i. item (c .before .hash-length .ensures .0 i) (c .before .before .hashes .ensures i) (c .before .before .before .before .args .i))
 
 pub hash-spec : {M : Type 1} → statement M
 hash-spec = tie.close

@@ -25,7 +25,7 @@ cast-count : tie.Need-cast-count
 cast-count c =
     let a = c .before .before .before .before .before .before .before .args in
     let k = roots-writes (a .hash-type) (a .hashes .now) (a .buffer .now) (says-yes (c .before .before .before .before .write-verdict .ensures) (c .before .before .enum-told .given .1)) in
-    let count = c .item-count .ensures ∙ ap (λ (w : ℕ). itemCount w (a .hashes .now)) (c .before .hash-width .ensures .0) in
+    let count = c .item-count .ensures ∙ ap (λ (w : ℕ). itemCount w (a .hashes .now)) (c .before .hash-length .ensures .0) in
     omega (arith, count, k .0 .items .few)
 
 returns-2 : tie.Need-returns-2
@@ -35,7 +35,7 @@ returns-2 c =
     let b = a .buffer .now in
     let n = c .before .before .before .before .before .before .before .before .before .before .before .before .before .write-verdict .ensures in
     let yes = c .before .before .before .before .before .before .before .before .before .before .before .enum-told .given .1 in
-    let count = c .before .before .before .before .before .before .before .before .before .item-count .ensures ∙ ap (λ (w : ℕ). itemCount w h) (c .before .before .before .before .before .before .before .before .before .before .hash-width .ensures .0) in (
+    let count = c .before .before .before .before .before .before .before .before .before .item-count .ensures ∙ ap (λ (w : ℕ). itemCount w h) (c .before .before .before .before .before .before .before .before .before .before .hash-length .ensures .0) in (
       n,
       written b n yes
           (c .before .before .put2 .ensures

@@ -2,7 +2,8 @@ use Prim.Native.Nat.{_+_, _*_, _/_, _^_}
 use mathlib.Core.Path.{_≡_, ap, _∙_}
 use borrow.Author.Needs.{needs}
 use lib.ListN.{length, drop}
-use Rattle.elements.specs.Parts.{readNumber, hashWidth}
+use Rattle.hash.specs.Types.{hashLength}
+use Rattle.elements.specs.Parts.{readNumber}
 use Rattle.elements.specs.SignedImage.{hashTypeOf, imageNumber}
 use mathlib.Core.Bool.{not, _||_, or-assoc}
 use lib.Dec.{eqb, ltb}
@@ -14,7 +15,7 @@ returns : tie.Need-returns
 unfolding imageNumber
 returns c =
     let b = c .before .before .before .before .before .before .before .before .before .args .element .now in
-    let w : c .before .before .before .before .before .hash-width .result ≡ hashWidth (hashTypeOf b) = c .before .before .before .before .before .hash-width .ensures .0 ∙ ap hashWidth (c .before .before .before .before .before .before .before .hash-type-of .ensures) in
+    let w : c .before .before .before .before .before .hash-length .result ≡ hashLength (hashTypeOf b) = c .before .before .before .before .before .hash-length .ensures .0 ∙ ap hashLength (c .before .before .before .before .before .before .before .hash-type-of .ensures) in
     let regions = c .before .before .before .before .bytes-from .ensures ∙ (λ i. drop (4 + w i) b) in
     let last = c .any-unsound .ensures ∙ (λ i. regionsUnsound (regions i) (c .before .before .before .before .before .before .byte-at .ensures i)) in
     (λ i. readNumber (

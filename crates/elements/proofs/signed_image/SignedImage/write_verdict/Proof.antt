@@ -11,7 +11,7 @@ returns : tie.Need-returns
 returns c =
     let a = c .before .before .before .before .before .args in
     c .write-verdict .ensures
-    ∙ (λ i. writeNumber (c .before .before .fields-malformed .ensures i) (4 + c .before .hash-width .ensures .0 i + length (a .regions .now)) (a .buffer-len))
+    ∙ (λ i. writeNumber (c .before .before .fields-malformed .ensures i) (4 + c .before .hash-length .ensures .0 i + length (a .regions .now)) (a .buffer-len))
     ∙ image-length (a .hash-type) (a .hash .now) (a .regions .now) (a .buffer-len)
 
 pub write-verdict-spec : {M : Type 1} → statement M

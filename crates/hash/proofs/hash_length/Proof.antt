@@ -1,7 +1,7 @@
 use native.Mathlib.Omega.{arith}
 use borrow.Author.Tests.{ne-eqb}
-use Rattle.elements.proofs.parts.hash_width.Statement.{statement}
-use Rattle.elements.proofs.parts.hash_width.Tie as tie
+use Rattle.hash.proofs.hash_length.Statement.{statement}
+use Rattle.hash.proofs.hash_length.Tie as tie
 
 returns : tie.Need-returns
 returns c = (simp (c .match .keys1), omega arith)
@@ -17,6 +17,6 @@ returns-4 c =
     let r = c .match .rest in
     (simp (ne-eqb _ _ (r .0 .0 .1), ne-eqb _ _ (r .0 .1), ne-eqb _ _ (r .1)), omega arith)
 
-pub hash-width-spec : {M : Type 1} → statement M
-hash-width-spec = tie.close
+pub hash-length-spec : {M : Type 1} → statement M
+hash-length-spec = tie.close
     (tie.spec returns returns-2 returns-3 returns-4)

@@ -1,8 +1,8 @@
 use Prim.Native.Nat.{ℕ}
 use mathlib.Core.Path.{sym}
 use lib.ListN.{length-replicate}
-use Rattle.fips180_vectors.proofs.million_a.Statement.{statement}
-use Rattle.fips180_vectors.proofs.million_a.Tie as tie
+use Rattle.fips180_vectors.proofs.published.million_a.Statement.{statement}
+use Rattle.fips180_vectors.proofs.published.million_a.Tie as tie
 
 returns : tie.Need-returns
 returns c = sym (length-replicate {A = ℕ} 1000000 97)

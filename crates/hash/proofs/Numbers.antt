@@ -1,0 +1,80 @@
+-- Which number the calls give, and what they answer and leave with it.
+use Prim.Native.Nat.{ℕ, _^_, _<_, _≤_}
+use mathlib.Core.Path.{_≡_, sym, ap, _∙_}
+use mathlib.Core.Bool.{false, not}
+use mathlib.Core.List.{List}
+use native.Mathlib.Omega.{arith}
+use lib.Dec.{eqb}
+use lib.ListN.{length}
+use borrow.Author.Tests.{lt-ltb, le-ltb, ltb-false, ne-eqb, eq-eqb, leb-false}
+use Rattle.refusal.specs.declared.Verdict.{Verdict}
+use Rattle.refusal.specs.Number.{numberOf}
+use Rattle.refusal.specs.Rules.{_when_else_}
+use Rattle.refusal.proofs.Laws.{when-yes, when-no, when-accepted, accepted-yes, accepted-no}
+use Rattle.refusal.proofs.Tests.{and-right, equal-no, no-equal}
+use Rattle.octets.specs.Octets.{sameBytes}
+use Rattle.hash.specs.Types.{hashLength, hashOf, badHashType}
+use Rattle.hash.specs.Calls.{tooLong, hashNumber, Outcome, outcome, answered, hashStep, hashMatches}
+use Rattle.hash.proofs.Types.{length-bound}
+
+module _ (t n k : ℕ) where
+  pub number-type : 2 < t → hashNumber t n k ≡ 12
+  unfolding hashNumber
+  number-type h = when-yes 12 _ (lt-ltb 2 t h)
+
+  pub number-buffer : t ≤ 2 → (k ≡ hashLength t → ⊥) → hashNumber t n k ≡ 3
+  unfolding hashNumber
+  number-buffer h f = when-no 12 _ (le-ltb 2 t h) ∙ when-yes 3 _ (ap not (ne-eqb k (hashLength t) f))
+
+  -- the type is defined and the buffer has its length
+  pub number-rest : t ≤ 2 → k ≡ hashLength t → hashNumber t n k ≡ (2 when tooLong t n else 0)
+  unfolding hashNumber
+  number-rest h e = when-no 12 _ (le-ltb 2 t h) ∙ when-no 3 _ (equal-no e)
+
+  pub record Accepts : Type 0 where
+    pub known : t ≤ 2
+    pub fits : k ≡ hashLength t
+    pub short : tooLong t n ≡ false
+
+  pub number-accepts : hashNumber t n k ≡ 0 → Accepts
+  unfolding hashNumber
+  number-accepts e =
+      let a = when-accepted 12 (badHashType t) _ (omega arith) e in
+      let b = when-accepted 3 (not (eqb k (hashLength t))) _ (omega arith) (a .1) in
+      let c = when-accepted 2 (tooLong t n) 0 (omega arith) (b .1) in
+      record { known = ltb-false 2 t (a .0); fits = no-equal k (hashLength t) (b .0); short = c .0 }
+
+  pub number-bound : hashNumber t n k ≡ 0 → k ≤ 64
+  number-bound e = omega (arith, number-accepts e .fits, length-bound t)
+
+  -- the type and the message are accepted with a buffer of the type's own length too
+  pub number-own : hashNumber t n k ≡ 0 → hashNumber t n (hashLength t) ≡ 0
+  number-own e = ap (hashNumber t n) (sym (number-accepts e .fits)) ∙ e
+
+-- a message that SHA-256 takes
+pub short-is : (t n : ℕ) → t ≡ 0 → tooLong t n ≡ false → n < 2 ^ 61
+short-is t n z e = leb-false (2 ^ 61) n (sym (and-right _ (eq-eqb t 0 z)) ∙ e)
+
+module _ (t : ℕ) (m b : List ℕ) where
+  abbrev number : ℕ
+  number = hashNumber t (length m) (length b)
+
+  pub step-refused : (r : Verdict) → numberOf r ≡ number → 0 < number → answered r b ≡ hashStep t m b
+  unfolding hashStep
+  step-refused r e h = λ i. record { number = e i; buffer = sym (accepted-no (hashOf t m) b h) i }
+
+  pub step-accepted : (r : Verdict) {out : List ℕ} → numberOf r ≡ number → number ≡ 0 → out ≡ hashOf t m → answered r out ≡ hashStep t m b
+  unfolding hashStep
+  step-accepted r e h p = λ i. record { number = e i; buffer = (p ∙ sym (accepted-yes (hashOf t m) b h)) i }
+
+  pub matches-refused : 0 < number → false ≡ hashMatches t m b
+  unfolding hashMatches
+  matches-refused h = sym (accepted-no (sameBytes (hashOf t m) b) false h)
+
+  pub matches-accepted : number ≡ 0 → sameBytes (hashOf t m) b ≡ hashMatches t m b
+  unfolding hashMatches
+  matches-accepted h = sym (accepted-yes (sameBytes (hashOf t m) b) false h)
+
+-- the number of an answer, told as a number
+pub number-told : {n k : ℕ} (b : List ℕ) {o : Outcome} → n ≡ k → outcome k b ≡ o → outcome n b ≡ o
+number-told b e p = ap (λ (x : ℕ). outcome x b) e ∙ p

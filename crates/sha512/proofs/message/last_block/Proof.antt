@@ -1,0 +1,25 @@
+use mathlib.Core.Path.{_≡_, refl, ap, _∙_}
+use mathlib.Core.List.{List}
+use native.Mathlib.Omega.{arith}
+use lib.ListN.{length}
+use borrow.Author.Needs.{needs}
+use Prim.Native.Nat.{ℕ}
+use Rattle.fips180.specs.Family.{blockBytes, lengthBytes}
+use Rattle.fips180.specs.Hash.{compress}
+use Rattle.fips180.specs.Sha512.{family64}
+use Rattle.fips180.proofs.Stores.{length-stored}
+use Rattle.sha512.proofs.message.last_block.Statement.{statement}
+use Rattle.sha512.proofs.message.last_block.Tie as tie
+
+returns : tie.Need-returns
+unfolding blockBytes lengthBytes family64
+returns c =
+    let a = c .before .before .before .before .before .before .before .before .before .before .before .before .args in
+    let l : length (a .b .now) ≡ 128 = search needs in
+    let e = length-stored family64 (a .b .now) (a .n) _ _ 112 l refl (omega arith) (omega arith) (c .before .before .before .before .before .before .before .before .before .before .before .word-bytes .ensures) (c .before .before .before .before .before .before .before .before .before .before .word-bytes2 .ensures) (c .before .before .before .before .before .before .before .put .ensures) (c .before .before .before .before .put2 .ensures) in
+    c .update .ensures ∙ ap (λ (b : List ℕ). compress family64 b (a .s .now)) e
+
+pub last-block-spec : {M : Type 1} → statement M
+last-block-spec =
+    tie.close
+    (tie.spec (λ c κs. search needs) (λ c. search needs) (λ c κs. search needs) (λ c. search needs) (λ c κs. search needs) (λ c. search needs) (λ c κs. search needs) (λ c κs. search needs) returns)
