@@ -7,7 +7,7 @@ use native.Mathlib.Omega.{arith}
 use lib.Dec.{leb}
 use lib.ListN.{length}
 use borrow.Author.Tests.{ne-eqb, lt-leb}
-use Rattle.refusal.proofs.Laws.{when-no}
+use Rattle.refusal.proofs.Laws.{when-no, accepted-yes, accepted-no}
 use Rattle.refusal.proofs.Tests.{and-left}
 use Rattle.octets.proofs.Buffers.{same-eq, same-refl}
 use Rattle.hash.specs.Types.{hashLength, hashOf}
@@ -35,12 +35,17 @@ yes-means zero t m h e y =
 yes-means (suc n) t m h e y = absurd (false≢true (matches-refused t m h (omega arith) ∙ y))
 
 pub hashes-mean : HashesMean
-unfolding hashStep
+unfolding hashStep hashOf
 hashes-mean =
     record {
+      first = λ m. (refl, refl);
+      second = λ m. (refl, refl);
+      third = λ m. (refl, refl);
       long = hash-long;
       accepts = λ t m b e. (has-hash t m (length b) e, number-accepts t (length m) (length b) e .fits);
       accepted = λ t m b h e. accepts-it t m (length b) h e;
+      made = λ t m b e. accepted-yes (hashOf t m) b e;
+      kept = λ t m b h. accepted-no (hashOf t m) b h;
       yes = λ t m h y. yes-means (hashNumber t (length m) (length h)) t m h refl y;
       only =
           λ t m h.
