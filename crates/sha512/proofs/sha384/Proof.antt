@@ -16,7 +16,7 @@ slice-aggregate-put-2 : tie.Need-slice-aggregate-put-2
 slice-aggregate-put-2 c =
     let whole : List ℕ = c .before .before .digest .result in
     let l : length whole ≡ 64 = search needs in
-    sym (length-take-le 48 whole (omega arith))
+    sym (length-take-le _ whole (omega arith))
 
 returns : tie.Need-returns
 unfolding sha384 initial384 family64
