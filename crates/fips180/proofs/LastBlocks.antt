@@ -9,13 +9,13 @@ use lib.Arith.{digits-div}
 use lib.ListN.{length, take, drop, getD, set, replicate, length-append, length-drop, length-replicate, List·getD-append}
 use lib.Seq.{length-take-le, getD-take, getD-drop, getD-at, getD-append-add, append-snoc, set-at, take-all, ext-getD}
 use Rattle.octets.specs.Octets.{zeros, pasted}
-use Rattle.octets.proofs.Buffers.{length-padded, pasted-zeros}
+use Rattle.octets.proofs.Buffers.{length-padded, pasted-zeros, zeros-byte}
 use Rattle.fips180.specs.Family.{Family, blockBytes, lengthBytes}
 use Rattle.fips180.specs.Padding.{bigEndian, block}
 use Rattle.fips180.specs.Hash.{compress, hashValue}
 use Rattle.fips180.specs.Continued.{padAfter, hashAfter}
 use Rattle.fips180.specs.LastBlocks.{tailBlock, withLength}
-use Rattle.fips180.proofs.Lists.{before-or-not, zeros-zero}
+use Rattle.fips180.proofs.Lists.{before-or-not}
 use Rattle.fips180.proofs.Bytes.{length-big}
 use Rattle.fips180.proofs.Padding.{length-pad, pad-message, pad-one, pad-zero, pad-length, pad-block}
 use Rattle.fips180.proofs.Blocks.{block-positive, zeroCount-fills, length-block, hashValue-more}
@@ -77,7 +77,7 @@ module _ (f : Family) (positive : 0 < f .wordBytes) where
         ap (λ (b : List ℕ). getD b x 0) tail-is
         ∙ ap (λ (n : ℕ). getD (tail ++ (0x80 ∷ rest)) n 0) e
         ∙ getD-append-add tail (0x80 ∷ rest) (suc (x - over - 1)) 0
-        ∙ zeros-zero (blockBytes f - length (tail ++ (0x80 ∷ []))) (x - over - 1)
+        ∙ zeros-byte (blockBytes f - length (tail ++ (0x80 ∷ []))) (x - over - 1)
 
     -- as code puts it together: the tail, read as c bytes from its start on, is put to the front of a block of zeros, and then the byte 0x80
     pub tail-put : {b : List ℕ} (c : ℕ) → over ≤ c → b ≡ pasted (replicate (blockBytes f) 0) 0 (take c tail) → set b over 0x80 ≡ tailBlock f m
@@ -203,7 +203,7 @@ module _ (f : Family) (positive : 0 < f .wordBytes) where
           let s = suc-mul (length m / blockBytes f) (blockBytes f) in
           last-is (replicate (blockBytes f) 0) (suc (length m / blockBytes f)) n (length-replicate {A = ℕ} (blockBytes f) 0) (omega arith) e
           (λ x a.
-          zeros-zero (blockBytes f) x ∙ sym (pad-zero f k m (suc (length m / blockBytes f) * blockBytes f + x) (omega arith) (omega arith)))
+          zeros-byte (blockBytes f) x ∙ sym (pad-zero f k m (suc (length m / blockBytes f) * blockBytes f + x) (omega arith) (omega arith)))
 
       -- ---- the hash value over them, from s after the whole blocks
 

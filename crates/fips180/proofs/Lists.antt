@@ -8,7 +8,6 @@ use native.Mathlib.Numerals.{add-one}
 use native.Mathlib.Omega.{arith}
 use lib.ListN.{length, take, drop, getD, set}
 use lib.Seq.{drop-cons, take-suc-set, take-all}
-use Rattle.octets.specs.Octets.{zeros}
 
 -- the elements from index at on, one at a time
 pub take-drop : (b : List ℕ) (at next k : ℕ) → at < length b → suc at ≡ next → take (suc k) (drop at b) ≡ getD b at 0 ∷ take k (drop next b)
@@ -37,12 +36,6 @@ store-next {A = A} f w j v h e g =
 -- the same loop at its end
 pub store-all {ℓ} : {A : Type ℓ} (f : ℕ → List A) (w : List A) (j n : ℕ) → length w ≡ n → j ≡ n → take j w ≡ f j → w ≡ f n
 store-all f w j n l e p = sym (take-all j w (omega arith)) ∙ p ∙ ap f e
-
-pub zeros-zero : (n x : ℕ) → getD (zeros n) x 0 ≡ 0
-unfolding zeros
-zeros-zero zero x = refl
-zeros-zero (suc n) zero = refl
-zeros-zero (suc n) (suc x) = zeros-zero n x
 
 pub before-or-not : (x j : ℕ) → (x < j) ⊎ (j ≤ x)
 before-or-not x zero = inr (omega arith)

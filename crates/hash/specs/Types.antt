@@ -19,6 +19,6 @@ hashLength hashType = byType hashType 32 48 64 0
 unfoldable pub hashOf : ℕ → List ℕ → List ℕ
 hashOf hashType m = byType hashType (sha256 m) (sha384 m) (sha512 m) []
 
--- "a hash type above 2" is 12
+-- document 01: "a hash type above 2 (also one that the caller gives)" is 12
 abbrev pub badHashType : ℕ → Bool
 badHashType hashType = ltb 2 hashType

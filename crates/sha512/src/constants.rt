@@ -121,7 +121,7 @@ const K64: [u64; 16] = [
     0x6c44198c4a475817,
 ];
 
-// The constants of the sixteen rounds from round t on. One array of all 80 would be copied to the stack. Of the quotient the compiler makes tables.
+// The constants of the sixteen rounds from round t on. One array of all 80 would be copied to the stack; of a `match` the compiler makes tables.
 pub(crate) fn constants_from(t: usize) -> [u64; 16]
     requires { ⌜ (t ≤ 64) × (t % 16 ≡ 0) ⌝ }
     ensures { λ r. ⌜ r ≡ take 16 (drop t (family64 .constants)) ⌝ }

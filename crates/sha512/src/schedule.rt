@@ -34,7 +34,7 @@ fn word(b: &[u8], j: usize) -> u64
     (((high * 256 + b4) * 256 + b5) * 256 + b6) * 256 + b7
 }
 
-// The sixteen words of a block. Straight-line: the compiler would widen a loop, and the hash lose 4 % by it.
+// The sixteen words of a block. Straight-line: a loop the compiler doesn't unroll, as it does that of SHA-256, and the hash loses 4 %.
 pub(crate) fn load(b: &[u8]) -> [u64; 16]
     requires { ⌜ length (now b) ≡ 128 ⌝ }
     ensures { λ r. ⌜ r ≡ wordsOf family64 16 (now (b .entry)) ⌝ }
