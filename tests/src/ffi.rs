@@ -1,23 +1,119 @@
-//! The functions of include/cerberus.h, declared again. The stand-in includes that header itself,
-//! so the self-test would show a declaration that is not the header's.
+//! What the pointers of include/cerberus.h point to: C's name of it and how it lies in memory.
 
 use crate::model::comparison::PmrComparison;
 use crate::model::little_endian;
 use crate::model::log::{PMRS, Pmr, State};
 use crate::model::slot::Numbers;
 
-/// The header's cerberus_slot.
-#[repr(C)]
-pub struct Slot {
-    magic: u64,
-    active_length: u64,
-    active_id: u64,
-    receiving: u64,
-    total: u64,
-    received: u64,
+/// What lent memory serves as.
+#[derive(Clone, Copy, PartialEq, Eq)]
+pub enum Kind {
+    /// Bytes at any address, passed with their length or of a fixed length.
+    Bytes,
+    /// A number or a struct behind a pointer, so aligned.
+    Value,
 }
 
-pub const SLOT_LEN: usize = size_of::<Slot>();
+/// A type of the header.
+pub trait InC {
+    const NAME: &'static str;
+    /// Where the header declares a parameter as an array: of so many.
+    const ARRAY: Option<usize> = None;
+}
+
+/// What is lent behind a pointer without a length.
+pub trait Pointee: InC + Sized {
+    const KIND: Kind;
+    /// Any bytes are something, and `store` puts the same bytes back.
+    fn load(memory: &[u8]) -> Self;
+    fn store(&self, memory: &mut [u8]);
+}
+
+macro_rules! numbers {
+    ($($type:ident is $name:literal;)*) => {$(
+        impl InC for $type {
+            const NAME: &'static str = $name;
+        }
+
+        impl Pointee for $type {
+            const KIND: Kind = Kind::Value;
+            fn load(memory: &[u8]) -> $type {
+                $type::from_ne_bytes(memory.try_into().unwrap())
+            }
+            fn store(&self, memory: &mut [u8]) {
+                memory.copy_from_slice(&self.to_ne_bytes());
+            }
+        }
+    )*};
+}
+
+numbers! {
+    u8 is "uint8_t";
+    u16 is "uint16_t";
+    u32 is "uint32_t";
+    usize is "size_t";
+}
+
+impl<const N: usize> InC for [u8; N] {
+    const NAME: &'static str = u8::NAME;
+    const ARRAY: Option<usize> = Some(N);
+}
+
+impl<const N: usize> Pointee for [u8; N] {
+    const KIND: Kind = Kind::Bytes;
+    fn load(memory: &[u8]) -> [u8; N] {
+        memory.try_into().unwrap()
+    }
+    fn store(&self, memory: &mut [u8]) {
+        memory.copy_from_slice(self);
+    }
+}
+
+/// A struct of the header: its fields, each with its first byte, and its length.
+pub struct Layout {
+    pub name: &'static str,
+    pub fields: &'static [(&'static str, usize)],
+    pub len: usize,
+}
+
+/// All of them, for the compiler to compare with the header's.
+pub const LAYOUTS: [Layout; 4] = [
+    Layout {
+        name: Numbers::NAME,
+        fields: &[
+            ("magic", 0),
+            ("active_length", 8),
+            ("active_id", 16),
+            ("receiving", 24),
+            ("total", 32),
+            ("received", 40),
+        ],
+        len: SLOT_LEN,
+    },
+    Layout { name: "cerberus_pmr", fields: &[("value", 0), ("entries", 32)], len: PMR_LEN },
+    Layout { name: State::NAME, fields: &[("count", 0), ("pmrs", 8)], len: LOG_LEN },
+    Layout {
+        name: Compared::NAME,
+        fields: &[("left_records", 0), ("right_records", 1), ("same_register", 2), ("agree", 3), ("differ_at", 4)],
+        len: COMPARED_LEN,
+    },
+];
+
+pub const SLOT_LEN: usize = 48;
+
+impl InC for Numbers {
+    const NAME: &'static str = "cerberus_slot";
+}
+
+impl Pointee for Numbers {
+    const KIND: Kind = Kind::Value;
+    fn load(memory: &[u8]) -> Numbers {
+        slot_numbers(memory)
+    }
+    fn store(&self, memory: &mut [u8]) {
+        memory.copy_from_slice(&slot_bytes(self));
+    }
+}
 
 /// A slot's bytes, as they lie in memory.
 pub fn slot_bytes(slot: &Numbers) -> Vec<u8> {
@@ -37,22 +133,23 @@ pub fn slot_numbers(bytes: &[u8]) -> Numbers {
     }
 }
 
-/// The header's cerberus_pmr.
-#[repr(C)]
-pub struct LogPmr {
-    value: [u8; 32],
-    entries: u64,
+const PMR_LEN: usize = 40;
+pub const LOG_LEN: usize = 8 + PMRS * PMR_LEN;
+
+impl InC for State {
+    const NAME: &'static str = "cerberus_log";
 }
 
-/// The header's cerberus_log. It is lent as bytes, at any address.
-#[repr(C)]
-pub struct Log {
-    count: u64,
-    pmrs: [LogPmr; PMRS],
+/// It is read and written as bytes, at any address.
+impl Pointee for State {
+    const KIND: Kind = Kind::Bytes;
+    fn load(memory: &[u8]) -> State {
+        log_state(memory)
+    }
+    fn store(&self, memory: &mut [u8]) {
+        memory.copy_from_slice(&log_bytes(self));
+    }
 }
-
-const PMR_LEN: usize = size_of::<LogPmr>();
-pub const LOG_LEN: usize = size_of::<Log>();
 
 /// A log's state, as the header has it lie in memory: numbers low byte first.
 pub fn log_bytes(state: &State) -> Vec<u8> {
@@ -70,200 +167,30 @@ pub fn log_state(bytes: &[u8]) -> State {
     State { count: little_endian(count), pmrs: std::array::from_fn(pmr) }
 }
 
-/// The header's cerberus_pmr_comparison.
-#[repr(C)]
-pub struct ComparedPmr {
-    left_records: u8,
-    right_records: u8,
-    same_register: u8,
-    agree: u8,
-    differ_at: u8,
+const COMPARED_LEN: usize = 5;
+/// The five PMRs' comparisons, each the header's cerberus_pmr_comparison.
+pub type Compared = [[u8; COMPARED_LEN]; PMRS];
+pub const COMPARISON_LEN: usize = PMRS * COMPARED_LEN;
+
+impl InC for Compared {
+    const NAME: &'static str = "cerberus_pmr_comparison";
+    const ARRAY: Option<usize> = Some(PMRS);
 }
 
-pub const COMPARISON_LEN: usize = PMRS * size_of::<ComparedPmr>();
+impl Pointee for Compared {
+    const KIND: Kind = Kind::Bytes;
+    fn load(memory: &[u8]) -> Compared {
+        std::array::from_fn(|pmr| memory[COMPARED_LEN * pmr..][..COMPARED_LEN].try_into().unwrap())
+    }
+    fn store(&self, memory: &mut [u8]) {
+        memory.copy_from_slice(self.as_flattened());
+    }
+}
 
-/// The five PMRs' comparisons, as they lie in memory.
-pub fn comparison_bytes(comparison: &[PmrComparison; PMRS]) -> Vec<u8> {
-    let fields = |pmr: &PmrComparison| {
+/// A comparison's fields, in the header's order.
+pub fn compared(comparison: &[PmrComparison; PMRS]) -> Compared {
+    comparison.map(|pmr| {
         let (same_register, agree) = (u8::from(pmr.same_register), u8::from(pmr.differ_at.is_none()));
         [pmr.left_records, pmr.right_records, same_register, agree, pmr.differ_at.unwrap_or(0)]
-    };
-    comparison.iter().flat_map(fields).collect()
-}
-
-unsafe extern "C" {
-    pub fn cerberus_meaning(number: u8, text: *mut u8, text_len: usize, meaning_len: *mut usize) -> u8;
-
-    pub fn cerberus_sha256(message: *const u8, message_len: usize, digest: *mut u8) -> u8;
-    pub fn cerberus_sha384(message: *const u8, message_len: usize, digest: *mut u8) -> u8;
-    pub fn cerberus_sha512(message: *const u8, message_len: usize, digest: *mut u8) -> u8;
-    pub fn cerberus_hash(hash_type: u8, message: *const u8, message_len: usize, hash: *mut u8, hash_len: usize) -> u8;
-    pub fn cerberus_hash_matches(
-        hash_type: u8,
-        message: *const u8,
-        message_len: usize,
-        hash: *const u8,
-        hash_len: usize,
-        matches: *mut u8,
-    ) -> u8;
-
-    pub fn cerberus_hmac_sha256(key: *const u8, key_len: usize, text: *const u8, text_len: usize, mac: *mut u8) -> u8;
-
-    pub fn cerberus_pairing_key(
-        session_key: *const u8,
-        session_key_len: usize,
-        pairing_key: *mut u8,
-        pairing_key_len: usize,
-    ) -> u8;
-
-    pub fn cerberus_certificate_slots(mask: u8, count: *mut u8, lowest: *mut u8) -> u8;
-
-    pub fn cerberus_log_reset(log: *mut Log, buffer: *mut u8, buffer_len: usize) -> u8;
-    pub fn cerberus_log_record(
-        log: *mut Log,
-        pmr: u8,
-        event_type: u32,
-        digest: *const u8,
-        buffer: *mut u8,
-        buffer_len: usize,
-    ) -> u8;
-    pub fn cerberus_log_register(log: *const Log, pmr: u8, buffer: *const u8, buffer_len: usize, value: *mut u8) -> u8;
-    pub fn cerberus_log_read_out(log: *const Log, buffer: *const u8, buffer_len: usize, text_len: *mut usize) -> u8;
-    pub fn cerberus_log_read_out_verdict(log: *const Log, buffer: *const u8, buffer_len: usize) -> u8;
-    pub fn cerberus_log_check(log: *const Log, buffer: *const u8, buffer_len: usize) -> u8;
-    pub fn cerberus_log_replay(
-        log: *mut Log,
-        text: *const u8,
-        text_len: usize,
-        buffer: *mut u8,
-        buffer_len: usize,
-    ) -> u8;
-
-    pub fn cerberus_log_text_verdict(text: *const u8, text_len: usize) -> u8;
-    pub fn cerberus_log_compare(
-        left: *const u8,
-        left_len: usize,
-        right: *const u8,
-        right_len: usize,
-        comparison: *mut ComparedPmr,
-    ) -> u8;
-
-    pub fn cerberus_slot_open(
-        slot: *mut Slot,
-        magic: u16,
-        pending: *mut u8,
-        pending_len: usize,
-        active: *mut u8,
-        active_len: usize,
-    ) -> u8;
-    pub fn cerberus_slot_prepare(
-        slot: *mut Slot,
-        total: u32,
-        pending: *const u8,
-        pending_len: usize,
-        active: *const u8,
-        active_len: usize,
-    ) -> u8;
-    pub fn cerberus_slot_update(
-        slot: *mut Slot,
-        payload: *const u8,
-        payload_len: usize,
-        pending: *mut u8,
-        pending_len: usize,
-        active: *const u8,
-        active_len: usize,
-    ) -> u8;
-    pub fn cerberus_slot_activate(
-        slot: *mut Slot,
-        signature_good: u8,
-        pending: *const u8,
-        pending_len: usize,
-        active: *mut u8,
-        active_len: usize,
-    ) -> u8;
-    pub fn cerberus_slot_manifest(
-        slot: *const Slot,
-        role: u8,
-        pending: *const u8,
-        pending_len: usize,
-        active: *const u8,
-        active_len: usize,
-        length: *mut usize,
-    ) -> u8;
-
-    pub fn cerberus_header(message: *const u8, message_len: usize) -> u8;
-    pub fn cerberus_command(
-        slot: *mut Slot,
-        signature_good: u8,
-        message: *const u8,
-        message_len: usize,
-        pending: *mut u8,
-        pending_len: usize,
-        active: *mut u8,
-        active_len: usize,
-        response: *mut u8,
-        response_len: usize,
-        written: *mut usize,
-    ) -> u8;
-
-    pub fn cerberus_region_read(element: *const u8, element_len: usize, start: *mut u32, end: *mut u32) -> u8;
-    pub fn cerberus_region_write(start: u32, end: u32, buffer: *mut u8, buffer_len: usize) -> u8;
-
-    pub fn cerberus_rw_region_read(
-        element: *const u8,
-        element_len: usize,
-        operation: *mut u8,
-        start: *mut u32,
-        end: *mut u32,
-    ) -> u8;
-    pub fn cerberus_rw_region_write(operation: u8, start: u32, end: u32, buffer: *mut u8, buffer_len: usize) -> u8;
-
-    pub fn cerberus_signed_image_read(
-        element: *const u8,
-        element_len: usize,
-        hash_type: *mut u8,
-        region_count: *mut u8,
-        must_validate: *mut u8,
-        hash_len: *mut usize,
-    ) -> u8;
-    pub fn cerberus_signed_image_region(
-        element: *const u8,
-        element_len: usize,
-        index: usize,
-        start: *mut u32,
-        end: *mut u32,
-    ) -> u8;
-    pub fn cerberus_signed_image_write(
-        hash_type: u8,
-        must_validate: u8,
-        hash: *const u8,
-        hash_len: usize,
-        regions: *const u8,
-        regions_len: usize,
-        buffer: *mut u8,
-        buffer_len: usize,
-    ) -> u8;
-
-    pub fn cerberus_root_cas_read(
-        hash_type: u8,
-        element: *const u8,
-        element_len: usize,
-        count: *mut u8,
-        hash_len: *mut usize,
-    ) -> u8;
-    pub fn cerberus_root_cas_hash(
-        hash_type: u8,
-        element: *const u8,
-        element_len: usize,
-        index: usize,
-        offset: *mut usize,
-        hash_len: *mut usize,
-    ) -> u8;
-    pub fn cerberus_root_cas_write(
-        hash_type: u8,
-        hashes: *const u8,
-        hashes_len: usize,
-        buffer: *mut u8,
-        buffer_len: usize,
-    ) -> u8;
+    })
 }

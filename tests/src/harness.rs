@@ -1,7 +1,10 @@
 //! Runs cases on the library and on the model, compares all that they leave, and counts.
 
-use crate::calls::{CALLS, Call, Case, Kind, Outcome, call_library, call_model};
+use crate::calls::{CALLS, Call, call_model};
+use crate::case::{Case, Library, Outcome};
+use crate::ffi::Kind;
 use crate::memory::GuardedMemory;
+use crate::model::ANSWERS;
 use crate::rng::Rng;
 use std::cell::Cell;
 use std::fmt::Write;
@@ -18,7 +21,7 @@ const SHOWN: usize = 3;
 #[derive(Clone, Default)]
 pub struct Tally {
     pub cases: u64,
-    pub reached: [u64; 13],
+    pub reached: [u64; ANSWERS],
     pub differences: u64,
     pub shown: Vec<String>,
 }
@@ -77,6 +80,9 @@ pub struct Harness<'a> {
     placing: Rng,
     pub tallies: Tallies,
     origin: Origin,
+    library: &'a Library,
+    /// After a difference of this call nothing more is run.
+    stop_at: Option<Call>,
     done: &'a AtomicU64,
 }
 
@@ -94,14 +100,25 @@ pub fn under_way() -> Option<String> {
 
 impl<'a> Harness<'a> {
     /// `done` counts the cases that were run, for whoever watches.
-    pub fn new(done: &'a AtomicU64) -> Harness<'a> {
+    pub fn new(library: &'a Library, done: &'a AtomicU64) -> Harness<'a> {
         Harness {
             memories: (0..MEMORIES).map(|_| GuardedMemory::new()).collect(),
             placing: Rng::new(0, "placing", 0),
             tallies: Tallies::new(),
             origin: Origin::default(),
+            library,
+            stop_at: None,
             done,
         }
+    }
+
+    #[cfg(feature = "self-test")]
+    pub fn stop_at_difference_of(&mut self, call: Call) {
+        self.stop_at = Some(call);
+    }
+
+    pub fn is_stopped(&self) -> bool {
+        self.stop_at.is_some_and(|call| self.tallies.of(call).differences > 0)
     }
 
     /// The cases that follow are those of this job.
@@ -112,12 +129,18 @@ impl<'a> Harness<'a> {
 
     /// Runs a case and holds it to the model. The library's outcome, if it is the model's.
     pub fn run(&mut self, case: Case) -> Option<Outcome> {
+        if self.is_stopped() {
+            return None;
+        }
         let expected = call_model(&case);
         self.expect_outcome(case, expected)
     }
 
     /// Runs a case and holds it to an expected outcome.
     pub fn expect_outcome(&mut self, case: Case, expected: Outcome) -> Option<Outcome> {
+        if self.is_stopped() {
+            return None;
+        }
         self.origin.case += 1;
         let call = case.call;
         let (case, found, guards) = self.library(case);
@@ -150,7 +173,7 @@ impl<'a> Harness<'a> {
         let at: Vec<*mut u8> = memories.iter_mut().map(GuardedMemory::pointer).collect();
         let pair = (self.origin.clone(), case);
         UNDER_WAY.set(&pair);
-        let answer = call_library(&pair.1, &at);
+        let answer = (self.library)(&pair.1, &at);
         UNDER_WAY.set(std::ptr::null());
         let lent = memories.iter_mut().map(GuardedMemory::take).collect();
         let mut guards = memories.iter_mut().all(GuardedMemory::near_guards_stand);

@@ -1,7 +1,8 @@
 //! SHA-256, SHA-384 and SHA-512 against the machine's own `sha256sum`, `sha384sum` and `sha512sum`: every length from 0 to
 //! 1,100 with several fillings, and some long messages. The library hashes each by the hash's own call and by its type.
 
-use crate::ffi::{cerberus_hash, cerberus_hash_matches, cerberus_sha256, cerberus_sha384, cerberus_sha512};
+use crate::calls::Call;
+use crate::case::{Case, Library, Outcome};
 use crate::model::hash;
 use crate::paper::OF_A_MILLION_AS;
 use crate::rng::Rng;
@@ -18,13 +19,13 @@ struct Hash {
     tool: &'static str,
     hash_type: u8,
     len: usize,
-    own_call: unsafe extern "C" fn(*const u8, usize, *mut u8) -> u8,
+    own_call: Call,
 }
 
 const HASHES: [Hash; 3] = [
-    Hash { name: "SHA-256", tool: "sha256sum", hash_type: 0, len: 32, own_call: cerberus_sha256 },
-    Hash { name: "SHA-384", tool: "sha384sum", hash_type: 1, len: 48, own_call: cerberus_sha384 },
-    Hash { name: "SHA-512", tool: "sha512sum", hash_type: 2, len: 64, own_call: cerberus_sha512 },
+    Hash { name: "SHA-256", tool: "sha256sum", hash_type: 0, len: 32, own_call: Call::Sha256 },
+    Hash { name: "SHA-384", tool: "sha384sum", hash_type: 1, len: 48, own_call: Call::Sha384 },
+    Hash { name: "SHA-512", tool: "sha512sum", hash_type: 2, len: 64, own_call: Call::Sha512 },
 ];
 
 /// What was compared, in words.
@@ -32,10 +33,11 @@ pub const WHAT: &str =
     "SHA-256, SHA-384 and SHA-512 against sha256sum, sha384sum and sha512sum, every length 0 to 1,100";
 
 /// The number of digests that were compared, and those that differ, shown. The files go below `folder`.
-pub fn compare(folder: &Path, seed: u64) -> Result<(usize, Vec<String>)> {
+pub fn compare(library: &Library, folder: &Path, seed: u64) -> Result<(usize, Vec<String>)> {
     let messages = messages(&mut Rng::new(seed, "installed", 0));
     let names = write_files(folder, &messages)?;
-    let compared: Result<Vec<_>> = HASHES.iter().map(|hash| compare_hash(hash, folder, &names, &messages)).collect();
+    let compared: Result<Vec<_>> =
+        HASHES.iter().map(|hash| compare_hash(library, hash, folder, &names, &messages)).collect();
     std::fs::remove_dir_all(folder)?;
     Ok((HASHES.len() * messages.len(), compared?.concat()))
 }
@@ -60,13 +62,19 @@ fn write_files(folder: &Path, messages: &[Vec<u8>]) -> Result<Vec<String>> {
 }
 
 /// The digests of one hash that differ.
-fn compare_hash(hash: &Hash, folder: &Path, names: &[String], messages: &[Vec<u8>]) -> Result<Vec<String>> {
+fn compare_hash(
+    library: &Library,
+    hash: &Hash,
+    folder: &Path,
+    names: &[String],
+    messages: &[Vec<u8>],
+) -> Result<Vec<String>> {
     let digests = installed_digests(hash, folder, names)?;
     let mut differences = Vec::new();
     for (message, theirs) in messages.iter().zip(&digests) {
         let model = hash::digest(hash.hash_type, message).ok();
-        let found = [model, own_digest(hash, message), digest_by_type(hash, message)];
-        if found.iter().any(|found| found.as_ref() != Some(theirs)) || !library_matches(hash, message, theirs) {
+        let found = [model, own_digest(library, hash, message), digest_by_type(library, hash, message)];
+        if found.iter().any(|found| found.as_ref() != Some(theirs)) || !is_match(library, hash, message, theirs) {
             let what = format!("{} of {} bytes", hash.name, message.len());
             differences.push(format!("{what}: {} {theirs:02x?}, model and library {found:02x?}", hash.tool));
         }
@@ -78,28 +86,21 @@ fn compare_hash(hash: &Hash, folder: &Path, names: &[String], messages: &[Vec<u8
     Ok(differences)
 }
 
-fn own_digest(hash: &Hash, message: &[u8]) -> Option<Vec<u8>> {
-    let mut digest = vec![0; hash.len];
-    // SAFETY: a message with its length, and as many bytes as the hash has.
-    let answer = unsafe { (hash.own_call)(message.as_ptr(), message.len(), digest.as_mut_ptr()) };
-    (answer == 0).then_some(digest)
+/// The library's digest, if it answers one.
+fn own_digest(library: &Library, hash: &Hash, message: &[u8]) -> Option<Vec<u8>> {
+    let case = Case::new(hash.own_call, &[], vec![message.to_vec(), vec![0; hash.len]]);
+    Outcome::unguarded(library, &case).accepted("digest", &case)
 }
 
-fn digest_by_type(hash: &Hash, message: &[u8]) -> Option<Vec<u8>> {
-    let mut digest = vec![0; hash.len];
-    let (at, len) = (digest.as_mut_ptr(), digest.len());
-    // SAFETY: a message and a buffer, with their lengths.
-    let answer = unsafe { cerberus_hash(hash.hash_type, message.as_ptr(), message.len(), at, len) };
-    (answer == 0).then_some(digest)
+fn digest_by_type(library: &Library, hash: &Hash, message: &[u8]) -> Option<Vec<u8>> {
+    let case = Case::new(Call::Hash, &[hash.hash_type.into()], vec![message.to_vec(), vec![0; hash.len]]);
+    Outcome::unguarded(library, &case).accepted("hash", &case)
 }
 
-fn library_matches(hash: &Hash, message: &[u8], digest: &[u8]) -> bool {
-    let mut matches = 9;
-    let (at, len) = (digest.as_ptr(), digest.len());
-    // SAFETY: a message and a hash, with their lengths, and a byte for the answer.
-    let answer =
-        unsafe { cerberus_hash_matches(hash.hash_type, message.as_ptr(), message.len(), at, len, &mut matches) };
-    answer == 0 && matches == 1
+fn is_match(library: &Library, hash: &Hash, message: &[u8], digest: &[u8]) -> bool {
+    let lent = vec![message.to_vec(), digest.to_vec(), vec![9]];
+    let case = Case::new(Call::HashMatches, &[hash.hash_type.into()], lent);
+    Outcome::unguarded(library, &case).accepted("matches", &case) == Some(vec![1])
 }
 
 /// Has the hash's tool hash all files at once.

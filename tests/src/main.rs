@@ -1,11 +1,18 @@
 //! Compares libcerberus.a with an implementation of document 01 written from the papers alone.
 
 mod calls;
+mod case;
 mod crash;
+mod declarations;
+#[cfg(feature = "self-test")]
+mod faults;
+#[cfg(feature = "self-test")]
+mod faulty;
 mod ffi;
 mod generate;
 mod harness;
 mod installed;
+mod marshal;
 mod memory;
 mod model;
 mod openssl;
@@ -13,12 +20,14 @@ mod paper;
 mod plan;
 mod report;
 mod rng;
-#[cfg(feature = "standin")]
+#[cfg(feature = "self-test")]
 mod selftest;
 mod sequence;
 mod systematic;
 mod workers;
 
+use calls::{CALLS, Call};
+use case::Library;
 use harness::Tallies;
 use plan::Job;
 use report::thousands;
@@ -26,6 +35,8 @@ use std::path::PathBuf;
 use std::process::ExitCode;
 use std::time::Instant;
 
+/// So many random cases of each call; fewer are enough to show a fault.
+const CASES: u64 = if cfg!(feature = "self-test") { 5_000 } else { 100_000 };
 /// So many differences are shown in full.
 const SHOWN: usize = 5;
 
@@ -35,14 +46,15 @@ pub struct Options {
     seed: u64,
     threads: usize,
     job: Option<String>,
-    /// The stand-in's fault that is on from the start; the self-test starts itself with one.
-    fault: i32,
+    /// The fault of the self-test that is tried alone; it starts itself with one.
+    #[cfg_attr(not(feature = "self-test"), allow(dead_code))]
+    fault: Option<String>,
     /// Where files may be written for a while.
     scratch: PathBuf,
 }
 
 const USAGE: &str = "\
-options: --cases N    at least N random cases of each call (default 100000)
+options: --cases N    at least N random cases of each call (default 100000, for the self-test 5000)
          --seed S     the seed of all random numbers (default 1)
          --threads T  threads (default: the machine's processors)
          --job NAME   only the job of this name, as a difference names it
@@ -51,7 +63,7 @@ options: --cases N    at least N random cases of each call (default 100000)
 fn options() -> Result<Options, String> {
     let threads = std::thread::available_parallelism().map_or(2, usize::from);
     let scratch = std::env::temp_dir();
-    let mut options = Options { cases: 100_000, seed: 1, threads, job: None, fault: 0, scratch };
+    let mut options = Options { cases: CASES, seed: 1, threads, job: None, fault: None, scratch };
     let mut words = std::env::args().skip(1);
     while let Some(word) = words.next() {
         let value = words.next().ok_or(format!("{word} needs a value"))?;
@@ -62,9 +74,7 @@ fn options() -> Result<Options, String> {
             "--threads" => options.threads = number()?.clamp(1, 64) as usize,
             "--job" => options.job = Some(value),
             "--scratch" => options.scratch = value.into(),
-            "--fault" if cfg!(feature = "standin") => {
-                options.fault = value.parse().map_err(|_| "--fault needs a number")?
-            }
+            "--fault" if cfg!(feature = "self-test") => options.fault = Some(value),
             _ => return Err(format!("unknown option {word}")),
         }
     }
@@ -72,6 +82,10 @@ fn options() -> Result<Options, String> {
 }
 
 fn main() -> ExitCode {
+    if std::env::args().nth(1).is_some_and(|word| word == "--declarations") {
+        print!("{}", declarations::in_c());
+        return ExitCode::SUCCESS;
+    }
     let options = match options() {
         Ok(options) => options,
         Err(message) => {
@@ -80,28 +94,29 @@ fn main() -> ExitCode {
         }
     };
     crash::report_crashes();
-    #[cfg(feature = "standin")]
+    #[cfg(feature = "self-test")]
     let passed = selftest::run(&options);
-    #[cfg(not(feature = "standin"))]
-    let passed = compare(&options);
+    #[cfg(not(feature = "self-test"))]
+    let passed = compare(&options, CALLS, &calls::call_library);
     if passed { ExitCode::SUCCESS } else { ExitCode::FAILURE }
 }
 
-/// The whole comparison, with its table. Whether nothing differs and nothing is missing.
-pub fn compare(options: &Options) -> bool {
+/// The comparison of all calls, or of the jobs that have some of them, with its table. Whether nothing differs and
+/// nothing is missing.
+pub fn compare(options: &Options, calls: &[Call], library: &Library) -> bool {
     let start = Instant::now();
     println!("seed {}, at least {} cases of each call, {} threads", options.seed, options.cases, options.threads);
     let jobs = plan::jobs(options.cases);
-    let chosen = chosen(&jobs, options);
+    let chosen = chosen(&jobs, calls, options);
     if chosen.is_empty() {
         println!("there is no such job");
         return false;
     }
-    let tallies = workers::run(&chosen, options.seed, options.threads, true);
+    let tallies = workers::run(library, &chosen, options.seed, options.threads, true);
     let mut differences = tallies.differences();
     let mut missing = Vec::new();
-    if options.job.is_none() {
-        differences += installed(options);
+    if options.job.is_none() && calls.len() == CALLS.len() {
+        differences += installed(options, library);
         missing = report::missing(&tallies, options.cases);
     }
     println!("\n{}", report::table(&tallies));
@@ -113,8 +128,9 @@ pub fn compare(options: &Options) -> bool {
     differences == 0 && missing.is_empty()
 }
 
-fn chosen<'a>(jobs: &'a [Job], options: &Options) -> Vec<&'a Job> {
-    jobs.iter().filter(|job| options.job.as_ref().is_none_or(|name| *name == job.name)).collect()
+fn chosen<'a>(jobs: &'a [Job], calls: &[Call], options: &Options) -> Vec<&'a Job> {
+    let is_named = |job: &Job| options.job.as_ref().is_none_or(|name| *name == job.name);
+    jobs.iter().filter(|job| job.has_any(calls) && is_named(job)).collect()
 }
 
 fn show_differences(tallies: &Tallies) {
@@ -125,9 +141,9 @@ fn show_differences(tallies: &Tallies) {
 }
 
 /// The number of values of which the machine's own tools say something else.
-fn installed(options: &Options) -> u64 {
-    let hashes = installed::compare(&options.scratch.join("hashes"), options.seed);
-    let macs = openssl::compare(&options.scratch.join("openssl"), options.seed);
+fn installed(options: &Options, library: &Library) -> u64 {
+    let hashes = installed::compare(library, &options.scratch.join("hashes"), options.seed);
+    let macs = openssl::compare(library, &options.scratch.join("openssl"), options.seed);
     show_installed(installed::WHAT, hashes) + show_installed(openssl::WHAT, macs)
 }
 

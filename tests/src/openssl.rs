@@ -2,7 +2,8 @@
 //! counter mode of NIST SP 800-108 `openssl kdf` with KBKDF, which has 32 bits of counter and of length unless told
 //! otherwise. KBKDF takes no empty key, so session keys begin at one byte.
 
-use crate::ffi::{cerberus_hmac_sha256, cerberus_pairing_key};
+use crate::calls::Call;
+use crate::case::{Case, Library, Outcome};
 use crate::installed::digest_of_line;
 use crate::model::hmac::hmac;
 use crate::model::pairing::{KEY_LEN, pairing_key};
@@ -20,22 +21,22 @@ const TEXT_EDGES: [usize; 10] = [0, 1, 55, 56, 63, 64, 65, 119, 128, 1000];
 pub const WHAT: &str = "HMAC and pairing keys against openssl, every length to 130";
 
 /// The number of values that were compared, and those that differ, shown. The files go below `folder`.
-pub fn compare(folder: &Path, seed: u64) -> Result<(usize, Vec<String>)> {
+pub fn compare(library: &Library, folder: &Path, seed: u64) -> Result<(usize, Vec<String>)> {
     let mut rng = Rng::new(seed, "openssl", 0);
     std::fs::create_dir_all(folder)?;
-    let shown = macs(folder, &mut rng).and_then(|macs| Ok([macs, pairing_keys(&mut rng)?].concat()));
+    let shown = macs(library, folder, &mut rng).and_then(|macs| Ok([macs, pairing_keys(library, &mut rng)?].concat()));
     std::fs::remove_dir_all(folder)?;
     let shown = shown?;
     Ok((shown.len(), shown.into_iter().flatten().collect()))
 }
 
 /// For each MAC, in what it differs.
-fn macs(folder: &Path, rng: &mut Rng) -> Result<Vec<Option<String>>> {
+fn macs(library: &Library, folder: &Path, rng: &mut Rng) -> Result<Vec<Option<String>>> {
     let compare = |(key_len, text_len): (usize, usize)| {
         let (key, text) = (rng.bytes(key_len), rng.bytes(text_len));
         let theirs = installed_mac(folder, &key, &text)?;
         let what = format!("HMAC of {text_len} bytes under a key of {key_len}");
-        Ok(difference(&what, theirs, library_mac(&key, &text), hmac(&key, &text).ok()))
+        Ok(difference(&what, theirs, mac(library, &key, &text), hmac(&key, &text).ok()))
     };
     mac_lengths().into_iter().map(compare).collect()
 }
@@ -49,13 +50,13 @@ fn mac_lengths() -> Vec<(usize, usize)> {
 }
 
 /// For each pairing key, in what it differs.
-fn pairing_keys(rng: &mut Rng) -> Result<Vec<Option<String>>> {
+fn pairing_keys(library: &Library, rng: &mut Rng) -> Result<Vec<Option<String>>> {
     let compare = |key_len: usize| {
         let key = rng.bytes(key_len);
         let mut buffer = [0; KEY_LEN];
         let model = pairing_key(&key, &mut buffer).ok().map(|()| buffer);
         let what = format!("pairing key of a session key of {key_len} bytes");
-        Ok(difference(&what, installed_pairing_key(&key)?, library_pairing_key(&key), model))
+        Ok(difference(&what, installed_pairing_key(&key)?, paired(library, &key), model))
     };
     (1..=LENGTHS).chain([200, 1000]).map(compare).collect()
 }
@@ -65,18 +66,15 @@ fn difference(what: &str, theirs: [u8; 32], library: Option<[u8; 32]>, model: Op
     differs.then(|| format!("{what}: library {library:02x?}, model {model:02x?}, openssl {theirs:02x?}"))
 }
 
-fn library_mac(key: &[u8], text: &[u8]) -> Option<[u8; 32]> {
-    let mut mac = [0; 32];
-    // SAFETY: a key and a text with their lengths, and 32 bytes for the MAC.
-    let answer = unsafe { cerberus_hmac_sha256(key.as_ptr(), key.len(), text.as_ptr(), text.len(), mac.as_mut_ptr()) };
-    (answer == 0).then_some(mac)
+/// The library's MAC, if it answers one.
+fn mac(library: &Library, key: &[u8], text: &[u8]) -> Option<[u8; 32]> {
+    let case = Case::new(Call::HmacSha256, &[], vec![key.to_vec(), text.to_vec(), vec![0; 32]]);
+    Outcome::unguarded(library, &case).accepted("mac", &case)?.try_into().ok()
 }
 
-fn library_pairing_key(session_key: &[u8]) -> Option<[u8; 32]> {
-    let mut key = [0; KEY_LEN];
-    // SAFETY: a session key and a buffer, with their lengths.
-    let answer = unsafe { cerberus_pairing_key(session_key.as_ptr(), session_key.len(), key.as_mut_ptr(), KEY_LEN) };
-    (answer == 0).then_some(key)
+fn paired(library: &Library, session_key: &[u8]) -> Option<[u8; KEY_LEN]> {
+    let case = Case::new(Call::PairingKey, &[], vec![session_key.to_vec(), vec![0; KEY_LEN]]);
+    Outcome::unguarded(library, &case).accepted("pairing_key", &case)?.try_into().ok()
 }
 
 fn installed_mac(folder: &Path, key: &[u8], text: &[u8]) -> Result<[u8; 32]> {

@@ -2,9 +2,9 @@
 //! legacy form (Item 4), of hash types (Item 8) and of slots and pairing (Item 14), with the papers' own bytes: neither
 //! the library nor the model decides here what is right.
 
-use crate::calls::{Call, Case, Outcome, call_model};
+use crate::calls::{Call, OF_ONE_HASH, call_model};
+use crate::case::{Case, Outcome};
 use crate::ffi::slot_bytes;
-use crate::generate::hash::OF_ONE_KIND;
 use crate::harness::Harness;
 use crate::model::sha512::constants_are_roots;
 use crate::model::slot::Numbers;
@@ -135,7 +135,7 @@ fn expect_unchanged(harness: &mut Harness, case: Case, answer: u8) {
 fn hashes(harness: &mut Harness) {
     assert!(constants_are_roots(), "the model's constants aren't those of FIPS 180-4");
     for (message, digests) in VECTORS {
-        for ((hash_type, call), digest) in (0..).zip(OF_ONE_KIND).zip(digests.map(bytes)) {
+        for ((hash_type, &call), digest) in (0..).zip(OF_ONE_HASH).zip(digests.map(bytes)) {
             let lent = vec![message.to_vec(), vec![0; digest.len()]];
             let hashed = vec![message.to_vec(), digest.clone()];
             expect(harness, Case::new(call, &[], lent.clone()), 0, hashed.clone());

@@ -1,14 +1,14 @@
 //! The jobs: which cases are run. Each job's cases follow from the seed and the job's name alone,
 //! whichever thread runs it.
 
-use crate::calls::{CALLS, Call};
+use crate::calls::{
+    BY_STATE, CALLS, Call, JUDGING, OF_ONE_HASH, OVER_ELEMENT, OVER_LOG, OVER_SLOT, OVER_STATE, OVER_TEXT,
+};
 use crate::generate::Generator;
-use crate::generate::hash::OF_ONE_KIND;
 use crate::generate::log::Pool;
 use crate::harness::Harness;
 use crate::rng::Rng;
 use crate::sequence::slot::Way;
-use crate::systematic::log::{BY_STATE, JUDGING, OVER_STATE, OVER_TEXT};
 use crate::{paper, sequence, systematic};
 
 /// So many random cases make a job.
@@ -21,55 +21,37 @@ type Work = Box<dyn Fn(&mut Harness, &mut Rng) + Send + Sync>;
 pub struct Job {
     pub name: String,
     /// The calls that it has cases of, by which the self-test chooses jobs.
-    #[cfg_attr(not(feature = "standin"), allow(dead_code))]
-    pub calls: Vec<Call>,
+    calls: Vec<Call>,
+    /// Whether its cases are those of one call's generator.
+    #[cfg_attr(not(feature = "self-test"), allow(dead_code))]
+    pub is_random: bool,
     work: Work,
 }
 
 impl Job {
+    /// Whether it has cases of one of these calls.
+    pub fn has_any(&self, calls: &[Call]) -> bool {
+        self.calls.iter().any(|call| calls.contains(call))
+    }
+
     pub fn run(&self, harness: &mut Harness, seed: u64) {
         harness.begin(seed, &self.name);
         (self.work)(harness, &mut Rng::new(seed, &self.name, 0));
     }
 }
 
-const OVER_LOG: [Call; 8] = [
-    Call::LogReset,
-    Call::LogRecord,
-    Call::LogRegister,
-    Call::LogReadOut,
-    Call::LogReadOutVerdict,
-    Call::LogCheck,
-    Call::LogReplay,
-    Call::LogTextVerdict,
-];
-const OVER_SLOT: [Call; 6] =
-    [Call::SlotOpen, Call::SlotPrepare, Call::SlotUpdate, Call::SlotActivate, Call::SlotManifest, Call::Command];
-const OVER_ELEMENT: [Call; 10] = [
-    Call::RegionRead,
-    Call::RegionWrite,
-    Call::RwRegionRead,
-    Call::RwRegionWrite,
-    Call::SignedImageRead,
-    Call::SignedImageRegion,
-    Call::SignedImageWrite,
-    Call::RootCasRead,
-    Call::RootCasHash,
-    Call::RootCasWrite,
-];
-
 struct Plan(Vec<Job>);
 
 impl Plan {
     fn add(&mut self, name: &str, calls: &[Call], work: impl Fn(&mut Harness, &mut Rng) + Send + Sync + 'static) {
-        self.0.push(Job { name: name.to_string(), calls: calls.to_vec(), work: Box::new(work) });
+        self.0.push(Job { name: name.to_string(), calls: calls.to_vec(), is_random: false, work: Box::new(work) });
     }
 }
 
 /// All jobs, with at least so many random cases of each call.
 pub fn jobs(cases: u64) -> Vec<Job> {
     let mut plan = Plan(Vec::new());
-    plan.add("paper", &CALLS, |harness, _| paper::run(harness));
+    plan.add("paper", CALLS, |harness, _| paper::run(harness));
     systematic_jobs(&mut plan);
     sequence_jobs(&mut plan, cases);
     random_jobs(&mut plan, cases);
@@ -79,26 +61,26 @@ pub fn jobs(cases: u64) -> Vec<Job> {
 fn systematic_jobs(plan: &mut Plan) {
     log_jobs(plan);
     comparison_jobs(plan);
-    plan.add("slot-states", &OVER_SLOT, systematic::slot::states);
-    plan.add("slot-totals", &OVER_SLOT, systematic::slot::totals);
-    plan.add("slot-payloads", &OVER_SLOT, systematic::slot::payloads);
-    plan.add("slot-header-bytes", &OVER_SLOT, systematic::slot::header_bytes);
-    plan.add("slot-header-limits", &OVER_SLOT, systematic::slot::header_limits);
-    plan.add("slot-roles-and-verdicts", &OVER_SLOT, systematic::slot::roles_and_verdicts);
-    plan.add("slot-buffer-lengths", &OVER_SLOT, systematic::slot::buffer_lengths);
-    plan.add("slot-refusals-at-once", &OVER_SLOT, systematic::slot::refusals_at_once);
+    plan.add("slot-states", OVER_SLOT, systematic::slot::states);
+    plan.add("slot-totals", OVER_SLOT, systematic::slot::totals);
+    plan.add("slot-payloads", OVER_SLOT, systematic::slot::payloads);
+    plan.add("slot-header-bytes", OVER_SLOT, systematic::slot::header_bytes);
+    plan.add("slot-header-limits", OVER_SLOT, systematic::slot::header_limits);
+    plan.add("slot-roles-and-verdicts", OVER_SLOT, systematic::slot::roles_and_verdicts);
+    plan.add("slot-buffer-lengths", OVER_SLOT, systematic::slot::buffer_lengths);
+    plan.add("slot-refusals-at-once", OVER_SLOT, systematic::slot::refusals_at_once);
     plan.add("headers", &[Call::Header], |harness, _| systematic::message::headers(harness));
     plan.add("header-bytes", &[Call::Header], systematic::message::header_bytes);
     plan.add("command-bits-and-bodies", &[Call::Command], systematic::message::bits_and_bodies);
     plan.add("command-damaged", &[Call::Command], systematic::message::damaged);
     plan.add("command-response-lengths", &[Call::Command], systematic::message::response_lengths);
     plan.add("command-refusals-at-once", &[Call::Command], systematic::message::refusals_at_once);
-    plan.add("element-regions", &OVER_ELEMENT, systematic::element::regions);
-    plan.add("element-damaged", &OVER_ELEMENT, systematic::element::damaged);
-    plan.add("element-lengths", &OVER_ELEMENT, systematic::element::lengths);
-    plan.add("element-types-and-counts", &OVER_ELEMENT, systematic::element::types_and_counts);
-    plan.add("element-indices", &OVER_ELEMENT, systematic::element::indices);
-    plan.add("element-absurd-lengths", &OVER_ELEMENT, systematic::element::absurd_lengths);
+    plan.add("element-regions", OVER_ELEMENT, systematic::element::regions);
+    plan.add("element-damaged", OVER_ELEMENT, systematic::element::damaged);
+    plan.add("element-lengths", OVER_ELEMENT, systematic::element::lengths);
+    plan.add("element-types-and-counts", OVER_ELEMENT, systematic::element::types_and_counts);
+    plan.add("element-indices", OVER_ELEMENT, systematic::element::indices);
+    plan.add("element-absurd-lengths", OVER_ELEMENT, systematic::element::absurd_lengths);
     plan.add("meanings", &[Call::Meaning], systematic::meanings);
     hash_jobs(plan);
     binding_jobs(plan);
@@ -107,34 +89,34 @@ fn systematic_jobs(plan: &mut Plan) {
 /// A job has the calls of one kind where it can, so that the self-test runs no others for a fault.
 fn log_jobs(plan: &mut Plan) {
     for entries in [64, 12, 3, 1, 0] {
-        plan.add(&format!("log-damaged-judged-{entries}"), &JUDGING, move |harness, rng| {
-            systematic::log::damaged(harness, &JUDGING, entries, rng)
+        plan.add(&format!("log-damaged-judged-{entries}"), JUDGING, move |harness, rng| {
+            systematic::log::damaged(harness, JUDGING, entries, rng)
         });
-        plan.add(&format!("log-damaged-unjudged-{entries}"), &BY_STATE, move |harness, rng| {
-            systematic::log::damaged(harness, &BY_STATE, entries, rng)
+        plan.add(&format!("log-damaged-unjudged-{entries}"), BY_STATE, move |harness, rng| {
+            systematic::log::damaged(harness, BY_STATE, entries, rng)
         });
     }
     for entries in [64, 12, 3, 1] {
         let name = format!("log-text-damaged-{entries}");
-        plan.add(&name, &OVER_TEXT, move |harness, rng| systematic::log::damaged_texts(harness, entries, rng));
+        plan.add(&name, OVER_TEXT, move |harness, rng| systematic::log::damaged_texts(harness, entries, rng));
     }
-    plan.add("log-sizes", &OVER_LOG, systematic::log::sizes);
-    plan.add("log-pmrs", &BY_STATE, systematic::log::pmrs);
-    plan.add("log-pmr-bytes", &OVER_LOG, systematic::log::pmr_bytes);
-    plan.add("log-other-runs", &OVER_STATE, systematic::log::other_runs);
-    plan.add("log-buffer-lengths", &OVER_LOG, systematic::log::buffer_lengths);
-    plan.add("log-text-lengths", &OVER_TEXT, systematic::log::text_lengths);
-    plan.add("log-legacy-texts", &OVER_TEXT, systematic::log::legacy_texts);
-    plan.add("log-refusals-at-once", &OVER_STATE, systematic::log::refusals_at_once);
-    plan.add("log-text-refusals-at-once", &OVER_TEXT, systematic::log::text_refusals_at_once);
-    plan.add("log-state-bytes", &OVER_STATE, systematic::log_state::bytes);
-    plan.add("log-state-number-bits", &OVER_STATE, systematic::log_state::number_bits);
-    plan.add("log-state-pairs", &OVER_STATE, systematic::log_state::pairs);
-    plan.add("log-state-without-entries", &OVER_STATE, systematic::log_state::without_entries);
+    plan.add("log-sizes", OVER_LOG, systematic::log::sizes);
+    plan.add("log-pmrs", BY_STATE, systematic::log::pmrs);
+    plan.add("log-pmr-bytes", OVER_LOG, systematic::log::pmr_bytes);
+    plan.add("log-other-runs", OVER_STATE, systematic::log::other_runs);
+    plan.add("log-buffer-lengths", OVER_LOG, systematic::log::buffer_lengths);
+    plan.add("log-text-lengths", OVER_TEXT, systematic::log::text_lengths);
+    plan.add("log-legacy-texts", OVER_TEXT, systematic::log::legacy_texts);
+    plan.add("log-refusals-at-once", OVER_STATE, systematic::log::refusals_at_once);
+    plan.add("log-text-refusals-at-once", OVER_TEXT, systematic::log::text_refusals_at_once);
+    plan.add("log-state-bytes", OVER_STATE, systematic::log_state::bytes);
+    plan.add("log-state-number-bits", OVER_STATE, systematic::log_state::number_bits);
+    plan.add("log-state-pairs", OVER_STATE, systematic::log_state::pairs);
+    plan.add("log-state-without-entries", OVER_STATE, systematic::log_state::without_entries);
 }
 
 fn hash_jobs(plan: &mut Plan) {
-    for call in OF_ONE_KIND {
+    for &call in OF_ONE_HASH {
         let name = format!("messages-to-hash/{}", call.name());
         plan.add(&name, &[call], move |harness, rng| systematic::hash::messages(harness, call, rng));
     }
@@ -179,13 +161,13 @@ fn comparison_jobs(plan: &mut Plan) {
 fn sequence_jobs(plan: &mut Plan, cases: u64) {
     for part in 0..(cases / 100).div_ceil(LISTS) {
         let name = format!("log-sequences/{part}");
-        plan.add(&name, &OVER_LOG, |harness, rng| {
+        plan.add(&name, OVER_LOG, |harness, rng| {
             let pool = Pool::new(rng);
             (0..LISTS).for_each(|_| sequence::log::run(harness, &pool, rng))
         });
         for (name, way) in [("slot", Way::Calls), ("command", Way::Messages), ("mixed", Way::Both)] {
             let name = format!("{name}-sequences/{part}");
-            plan.add(&name, &OVER_SLOT, move |harness, rng| {
+            plan.add(&name, OVER_SLOT, move |harness, rng| {
                 (0..LISTS).for_each(|_| sequence::slot::run(harness, way, rng))
             });
         }
@@ -193,15 +175,22 @@ fn sequence_jobs(plan: &mut Plan, cases: u64) {
 }
 
 fn random_jobs(plan: &mut Plan, cases: u64) {
-    for call in CALLS {
+    for &call in CALLS {
         for part in 0..cases.div_ceil(PART) {
             let count = PART.min(cases - part * PART);
-            plan.add(&format!("{}/{part}", call.name()), &[call], move |harness, rng| {
-                let generator = Generator::new(call, rng);
-                for _ in 0..count {
-                    harness.run(generator.case(call, rng));
-                }
-            });
+            let work = move |harness: &mut Harness, rng: &mut Rng| random_cases(harness, call, count, rng);
+            let name = format!("{}/{part}", call.name());
+            plan.0.push(Job { name, calls: vec![call], is_random: true, work: Box::new(work) });
         }
+    }
+}
+
+fn random_cases(harness: &mut Harness, call: Call, count: u64, rng: &mut Rng) {
+    let generator = Generator::new(call, rng);
+    for _ in 0..count {
+        if harness.is_stopped() {
+            return;
+        }
+        harness.run(generator.case(call, rng));
     }
 }

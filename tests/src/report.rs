@@ -2,6 +2,7 @@
 
 use crate::calls::{CALLS, Call};
 use crate::harness::Tallies;
+use crate::model::ANSWERS;
 
 /// One row for each call that had cases: how many, how often each number was answered, the differences. A dot
 /// stands where the call's rules don't allow the number.
@@ -15,7 +16,7 @@ pub fn table(tallies: &Tallies) -> String {
 }
 
 fn heading() -> Vec<String> {
-    let numbers = (0..=12).map(|number| number.to_string());
+    let numbers = (0..ANSWERS).map(|number| number.to_string());
     let columns = ["call".to_string(), "cases".to_string()].into_iter().chain(numbers);
     columns.chain(["differences".to_string()]).collect()
 }
@@ -43,7 +44,7 @@ fn laid_out(row: &[String], widths: &[usize]) -> String {
 /// The numbers that a call's rules allow and that no case reached, and calls with too few cases.
 pub fn missing(tallies: &Tallies, cases: u64) -> Vec<String> {
     let mut missing = Vec::new();
-    for call in CALLS {
+    for &call in CALLS {
         let (signature, tally) = (call.signature(), tallies.of(call));
         for &number in signature.answers {
             if tally.reached[usize::from(number)] == 0 {

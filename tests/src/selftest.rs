@@ -1,69 +1,43 @@
-//! Shows that the comparison finds faults: the stand-in is compared without one, where nothing may
+//! Shows that the comparison finds faults: the model is put in the library's place without one, where nothing may
 //! differ, and then with each of its faults, which each call named for it must show.
 
 use crate::calls::{CALLS, Call};
-use crate::harness::Tallies;
+use crate::case::Case;
+use crate::faults::{Fault, faults, rights};
+use crate::faulty::Faulty;
+use crate::harness::{Harness, Tallies};
+use crate::plan::{self, Job};
 use crate::report::{self, thousands};
-use crate::{Options, compare, plan, workers};
-use std::ffi::{CStr, c_char};
+use crate::{Options, compare, workers};
+use std::collections::BTreeMap;
 use std::process::Command;
+use std::sync::atomic::{AtomicU64, AtomicUsize, Ordering};
+use std::sync::mpsc::channel;
+use std::thread;
 use std::time::Instant;
 
-unsafe extern "C" {
-    fn standin_switch_on(fault: i32);
-    fn standin_fault(fault: i32) -> *const c_char;
-    fn standin_fault_calls(fault: i32) -> *const c_char;
-}
-
-/// So many random cases of each call are enough to show a fault.
-const CASES: u64 = 5_000;
 /// The fault that reads a byte outside of what was lent.
-const READS_PAST: i32 = -1;
-
-struct Fault {
-    number: i32,
-    what: String,
-    calls: Vec<Call>,
-}
-
-fn text(text: *const c_char) -> Option<String> {
-    // SAFETY: the stand-in's texts are constants that end in a zero, or NULL.
-    (!text.is_null()).then(|| unsafe { CStr::from_ptr(text) }.to_string_lossy().into_owned())
-}
-
-fn faults() -> Vec<Fault> {
-    let mut faults = Vec::new();
-    for number in 1.. {
-        // SAFETY: any number may be asked for; the calls are asked for where there is such a fault.
-        let (what, names) = unsafe {
-            let Some(what) = text(standin_fault(number)) else { break };
-            (what, text(standin_fault_calls(number)).unwrap_or_default())
-        };
-        let calls: Vec<Call> = names.split(' ').map(named).collect();
-        faults.push(Fault { number, what, calls });
-    }
-    faults
-}
-
-fn named(name: &str) -> Call {
-    *CALLS.iter().find(|call| call.name() == name).unwrap_or_else(|| panic!("there is no call {name}"))
-}
+const READS_PAST: &str = "READS_PAST";
 
 pub fn run(options: &Options) -> bool {
-    switch_on(options.fault);
-    if options.job.is_some() || options.fault != 0 {
-        return compare(options);
+    if let Some(name) = &options.fault {
+        return with_fault(options, name);
     }
-    println!("the stand-in without a fault");
+    println!("the model in the library's place, without a fault");
     let start = Instant::now();
-    if !compare(options) {
-        println!("the stand-in differs without a fault, so that its faults would show nothing");
+    if !compare(options, CALLS, &|case: &Case, at: &[*mut u8]| Faulty::Right.call(case, at)) {
+        println!("it differs without a fault, so that its faults would show nothing");
         return false;
     }
-    let faults = faults();
-    println!("\nthe stand-in with one fault at a time, {} random cases of each call", thousands(CASES));
-    let found = faults.iter().filter(|fault| is_found(fault, options)).count();
-    let mut passed = found == faults.len();
+    if options.job.is_some() {
+        return true;
+    }
+    let jobs = plan::jobs(options.cases);
+    let mut passed = rights_pass(&jobs, options);
+    let faults: Vec<&Fault> = faults().collect();
+    println!("\nthe model with one fault at a time, and the case of each call that showed it");
+    let found = count_found(&faults, &jobs, options);
+    passed &= found == faults.len();
     passed &= every_call_has_a_fault(&faults);
     passed &= empty_run_fails();
     passed &= read_outside_is_trapped(options);
@@ -72,31 +46,89 @@ pub fn run(options: &Options) -> bool {
     passed
 }
 
-fn switch_on(fault: i32) {
-    // SAFETY: no other thread is running.
-    unsafe { standin_switch_on(fault) };
+/// One fault, of which all differences in its calls' jobs, or in one job, are counted.
+fn with_fault(options: &Options, name: &str) -> bool {
+    if name == READS_PAST {
+        return compare(options, CALLS, &|case: &Case, at: &[*mut u8]| Faulty::ReadsPast.call(case, at));
+    }
+    match faults().find(|fault| fault.name == name) {
+        Some(fault) => compare(options, fault.calls, &|case: &Case, at: &[*mut u8]| Faulty::With(fault).call(case, at)),
+        None => {
+            println!("there is no fault {name}");
+            false
+        }
+    }
 }
 
-/// Runs the jobs of the calls that must show the fault.
-fn is_found(fault: &Fault, options: &Options) -> bool {
-    let jobs = plan::jobs(CASES);
-    let concerned: Vec<_> = jobs.iter().filter(|job| job.calls.iter().any(|call| fault.calls.contains(call))).collect();
-    switch_on(fault.number);
-    let tallies = workers::run(&concerned, options.seed, options.threads, false);
-    switch_on(0);
-    let missed: Vec<_> = fault.calls.iter().filter(|&&call| tallies.of(call).differences == 0).collect();
-    let verdict = if missed.is_empty() { "found " } else { "MISSED" };
-    println!("{verdict}  {:58}  {}", fault.what, differences(fault, &tallies));
-    missed.is_empty()
+/// The code that the faults vary, by the right rules, differs nowhere.
+fn rights_pass(jobs: &[Job], options: &Options) -> bool {
+    rights().all(|right| {
+        let concerned: Vec<&Job> = jobs.iter().filter(|job| job.has_any(right.calls)).collect();
+        let library = move |case: &Case, at: &[*mut u8]| Faulty::With(right).call(case, at);
+        let tallies = workers::run(&library, &concerned, options.seed, options.threads, false);
+        let (cases, differences) = (thousands(tallies.cases()), tallies.differences());
+        println!("{}: {cases} cases, {differences} differences", right.what);
+        differences == 0
+    })
 }
 
-fn differences(fault: &Fault, tallies: &Tallies) -> String {
-    let short = |call: Call| call.name().trim_start_matches("cerberus_").to_string();
-    let counts = fault.calls.iter().map(|&call| format!("{} {}", short(call), tallies.of(call).differences));
-    counts.collect::<Vec<_>>().join(", ")
+/// How many faults are found, by several threads. They are shown in their order.
+fn count_found(faults: &[&'static Fault], jobs: &[Job], options: &Options) -> usize {
+    let (next, (done, finished)) = (AtomicUsize::new(0), channel());
+    thread::scope(|scope| {
+        for _ in 0..options.threads {
+            let (next, done) = (&next, done.clone());
+            scope.spawn(move || {
+                while let Some(fault) = faults.get(next.fetch_add(1, Ordering::Relaxed)) {
+                    let shown: Vec<_> = fault.calls.iter().map(|&call| shown_by(fault, call, jobs, options)).collect();
+                    done.send((fault.name, shown)).ok();
+                }
+            });
+        }
+        drop(done);
+        let mut waiting: BTreeMap<&str, Vec<Option<u64>>> = BTreeMap::new();
+        let mut shown_in_order = |fault: &&Fault| loop {
+            match waiting.remove(fault.name) {
+                Some(shown) => return show(fault, &shown),
+                None => match finished.recv() {
+                    Ok((name, shown)) => drop(waiting.insert(name, shown)),
+                    // The thread that had it was stopped by a panic.
+                    Err(_) => return show(fault, &vec![None; fault.calls.len()]),
+                },
+            }
+        };
+        faults.iter().filter(|fault| shown_in_order(fault)).count()
+    })
 }
 
-fn every_call_has_a_fault(faults: &[Fault]) -> bool {
+/// The number of the call's case that showed the fault first. The call's random cases come before all others.
+fn shown_by(fault: &'static Fault, call: Call, jobs: &[Job], options: &Options) -> Option<u64> {
+    let (library, done) = (move |case: &Case, at: &[*mut u8]| Faulty::With(fault).call(case, at), AtomicU64::new(0));
+    let mut harness = Harness::new(&library, &done);
+    harness.stop_at_difference_of(call);
+    let concerned = || jobs.iter().filter(|job| job.has_any(&[call]));
+    let random = concerned().filter(|job| job.is_random);
+    for job in random.chain(concerned().filter(|job| !job.is_random)) {
+        job.run(&mut harness, options.seed);
+        if harness.is_stopped() {
+            return Some(harness.tallies.of(call).cases);
+        }
+    }
+    None
+}
+
+/// Whether every call showed the fault.
+fn show(fault: &Fault, shown: &[Option<u64>]) -> bool {
+    let is_found = shown.iter().all(Option::is_some);
+    let short = |call: &Call| call.name().trim_start_matches("cerberus_").to_string();
+    let case = |shown: &Option<u64>| shown.map_or("NEVER".to_string(), |case| case.to_string());
+    let by_call: Vec<String> =
+        fault.calls.iter().zip(shown).map(|(call, shown)| format!("{} {}", short(call), case(shown))).collect();
+    println!("{}  {:58}  {}", if is_found { "found " } else { "MISSED" }, fault.what, by_call.join(", "));
+    is_found
+}
+
+fn every_call_has_a_fault(faults: &[&Fault]) -> bool {
     let without: Vec<_> = CALLS.iter().filter(|call| !faults.iter().any(|fault| fault.calls.contains(call))).collect();
     without.iter().for_each(|call| println!("no fault is tried on {}", call.name()));
     without.is_empty()
@@ -116,8 +148,7 @@ fn empty_run_fails() -> bool {
 /// A read outside of the lent memory stops the program that it happens in, so another one does it.
 fn read_outside_is_trapped(options: &Options) -> bool {
     let program = std::env::current_exe().expect("the program's own file");
-    let words =
-        ["--fault", &READS_PAST.to_string(), "--job", "cerberus_log_reset/0", "--seed", &options.seed.to_string()];
+    let words = ["--fault", READS_PAST, "--job", "cerberus_log_reset/0", "--seed", &options.seed.to_string()];
     let output = Command::new(program).args(words).output().expect("the program starts itself");
     let said = String::from_utf8_lossy(&output.stderr);
     let trapped = !output.status.success() && said.contains("memory touched that wasn't lent");

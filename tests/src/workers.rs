@@ -1,5 +1,6 @@
 //! Runs jobs on several threads, shows how far they are, and stops a library that doesn't end.
 
+use crate::case::Library;
 use crate::harness::{Harness, Tallies};
 use crate::plan::Job;
 use std::io::{IsTerminal, Write};
@@ -19,13 +20,14 @@ struct Worker {
 }
 
 /// All jobs' tallies.
-pub fn run(jobs: &[&Job], seed: u64, threads: usize, progress: bool) -> Tallies {
+pub fn run(library: &Library, jobs: &[&Job], seed: u64, threads: usize, progress: bool) -> Tallies {
     let next = AtomicUsize::new(0);
     let new = |_| Worker { job: AtomicUsize::new(0), cases: AtomicU64::new(0), at_work: AtomicBool::new(true) };
     let workers: Vec<Worker> = (0..threads).map(new).collect();
     thread::scope(|scope| {
         let next = &next;
-        let begun: Vec<_> = workers.iter().map(|worker| scope.spawn(move || work(worker, jobs, seed, next))).collect();
+        let begun: Vec<_> =
+            workers.iter().map(|worker| scope.spawn(move || work(library, worker, jobs, seed, next))).collect();
         let watcher = scope.spawn(|| watch(&workers, jobs, next, progress));
         let mut tallies = Tallies::new();
         for worker in begun {
@@ -36,8 +38,8 @@ pub fn run(jobs: &[&Job], seed: u64, threads: usize, progress: bool) -> Tallies 
     })
 }
 
-fn work(worker: &Worker, jobs: &[&Job], seed: u64, next: &AtomicUsize) -> Tallies {
-    let mut harness = Harness::new(&worker.cases);
+fn work(library: &Library, worker: &Worker, jobs: &[&Job], seed: u64, next: &AtomicUsize) -> Tallies {
+    let mut harness = Harness::new(library, &worker.cases);
     loop {
         let number = next.fetch_add(1, Relaxed);
         let Some(job) = jobs.get(number) else { break };

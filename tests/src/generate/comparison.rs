@@ -2,7 +2,8 @@
 
 use super::log::{Pool, broken_text, of_records, record};
 use super::{absurd_len, damage, word};
-use crate::calls::{Call, Case};
+use crate::calls::Call;
+use crate::case::Case;
 use crate::ffi::COMPARISON_LEN;
 use crate::model::log::{Book, CAPACITY, ENTRY_LEN, Record};
 use crate::rng::Rng;

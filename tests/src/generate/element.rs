@@ -1,7 +1,8 @@
 //! Manifest elements and the fields that writers are given.
 
 use super::{damage, size, word};
-use crate::calls::{Call, Case};
+use crate::calls::Call;
+use crate::case::Case;
 use crate::rng::Rng;
 
 /// A region's two addresses: equal, one apart in either direction, or free.

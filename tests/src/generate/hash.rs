@@ -2,7 +2,8 @@
 
 use super::element::hash_len;
 use super::{absurd_len, damage};
-use crate::calls::{Call, Case};
+use crate::calls::Call;
+use crate::case::Case;
 use crate::model::hash::{digest, judge};
 use crate::rng::Rng;
 
@@ -11,8 +12,6 @@ const EDGES: [usize; 25] =
     [0, 1, 54, 55, 56, 57, 63, 64, 65, 111, 112, 113, 118, 119, 120, 127, 128, 129, 239, 240, 241, 255, 256, 257, 1100];
 /// FIPS 180-4 defines no SHA-256 from here on.
 pub const LIMIT: usize = 1 << 61;
-/// The calls of one hash each, in the order of the hash types.
-pub const OF_ONE_KIND: [Call; 3] = [Call::Sha256, Call::Sha384, Call::Sha512];
 
 fn message(rng: &mut Rng) -> Vec<u8> {
     let len = match rng.below(20) {

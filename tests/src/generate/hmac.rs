@@ -1,7 +1,8 @@
 //! Keys and texts for HMAC.
 
 use super::hash::{LIMIT, undefined_len};
-use crate::calls::{Call, Case};
+use crate::calls::Call;
+use crate::case::Case;
 use crate::rng::Rng;
 
 /// Lengths at the edges of a block and of the padding.

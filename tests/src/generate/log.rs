@@ -3,7 +3,8 @@
 use super::comparison::{alike, other_digests};
 use super::log_state::{other_state, unread};
 use super::{absurd_len, damage, size, word, wrong_len};
-use crate::calls::{Call, Case};
+use crate::calls::Call;
+use crate::case::Case;
 use crate::ffi::log_bytes;
 use crate::model::log::{BUFFER_LEN, Book, CAPACITY, ENTRY_LEN, Pmr, Record, State};
 use crate::model::sha256::sha256;
@@ -77,12 +78,7 @@ pub fn over_state(call: Call, pool: &Pool, rng: &mut Rng) -> Case {
         buffer.resize(wrong_len(BUFFER_LEN, rng), 0);
     }
     let case = of_state(call, &state, pmr(rng), buffer, rng);
-    if rng.chance(2) { case.claiming(buffer_place(call), absurd_len(BUFFER_LEN, rng), 3) } else { case }
-}
-
-/// Which of a call's lent memories the log's buffer is. The state is the first.
-pub fn buffer_place(call: Call) -> usize {
-    if matches!(call, Call::LogRecord | Call::LogReplay) { 2 } else { 1 }
+    if rng.chance(2) { case.claiming(call.place("buffer"), absurd_len(BUFFER_LEN, rng), 3) } else { case }
 }
 
 pub fn of_state(call: Call, state: &State, pmr: u8, buffer: Vec<u8>, rng: &mut Rng) -> Case {

@@ -2,7 +2,8 @@
 
 use super::slot::{self, Header};
 use super::{absurd_len, size};
-use crate::calls::{Call, Case};
+use crate::calls::Call;
+use crate::case::Case;
 use crate::ffi::slot_bytes;
 use crate::model::slot::{BUFFER_LEN, Numbers};
 use crate::rng::Rng;

@@ -11,7 +11,8 @@ pub mod message;
 pub mod pairing;
 pub mod slot;
 
-use crate::calls::{Call, Case};
+use crate::calls::{Call, FROM_LOGS};
+use crate::case::Case;
 use crate::model::log::ENTRY_LEN;
 use crate::rng::Rng;
 use log::LEGACY_ENTRY_LEN;
@@ -24,18 +25,7 @@ pub struct Generator {
 impl Generator {
     /// The logs that cases are made from are built once, as they cost a hash for each entry.
     pub fn new(call: Call, rng: &mut Rng) -> Generator {
-        let over_a_log = matches!(
-            call,
-            Call::LogRecord
-                | Call::LogRegister
-                | Call::LogReadOut
-                | Call::LogReadOutVerdict
-                | Call::LogCheck
-                | Call::LogReplay
-                | Call::LogTextVerdict
-                | Call::LogCompare
-        );
-        Generator { logs: over_a_log.then(|| log::Pool::new(rng)) }
+        Generator { logs: FROM_LOGS.contains(&call).then(|| log::Pool::new(rng)) }
     }
 
     pub fn case(&self, call: Call, rng: &mut Rng) -> Case {

@@ -2,7 +2,8 @@
 
 use super::hash::undefined_len;
 use super::{absurd_len, hmac, wrong_len};
-use crate::calls::{Call, Case};
+use crate::calls::Call;
+use crate::case::Case;
 use crate::model::pairing::KEY_LEN;
 use crate::rng::Rng;
 

@@ -1,7 +1,8 @@
 //! Slots: states within and outside the rules, manifests that pass and that break a rule each.
 
 use super::{absurd_len, size, wrong_len};
-use crate::calls::{Call, Case};
+use crate::calls::Call;
+use crate::case::Case;
 use crate::ffi::slot_bytes;
 use crate::model::slot::{BUFFER_LEN, Numbers};
 use crate::rng::Rng;

@@ -1,11 +1,11 @@
 //! The meanings of the refusal numbers, in the words of document 01's table.
 
-use super::{Answer, Refusal, demand};
+use super::{ANSWERS, Answer, Refusal, demand};
 
 /// What a caller's text buffer must have room for, by the C header.
 pub const ROOM: usize = 80;
 
-const MEANINGS: [&str; 12] = [
+const MEANINGS: [&str; ANSWERS - 1] = [
     "the header is short or isn't ours",
     "the body, payload, log text or message to hash has a length that isn't permitted",
     "a lent buffer has the wrong length",
@@ -23,7 +23,7 @@ const MEANINGS: [&str; 12] = [
 /// The length of the meaning, which is put to the front of `text`.
 pub fn meaning(number: u8, text: &mut [u8]) -> Answer<u64> {
     demand(text.len() >= ROOM, Refusal::WrongBuffer)?;
-    demand((1..=12).contains(&number), Refusal::OutOfRange)?;
+    demand((1..ANSWERS).contains(&usize::from(number)), Refusal::OutOfRange)?;
     let words = MEANINGS[usize::from(number) - 1].as_bytes();
     text[..words.len()].copy_from_slice(words);
     Ok(words.len() as u64)

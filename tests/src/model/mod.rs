@@ -32,6 +32,9 @@ pub enum Refusal {
     MalformedElement = 12,
 }
 
+/// So many numbers a call may answer: 0 and the refusals up to the last one.
+pub const ANSWERS: usize = 1 + Refusal::MalformedElement as usize;
+
 pub type Answer<T> = Result<T, Refusal>;
 
 /// Refuses with `number` unless `holds`.

@@ -13,7 +13,8 @@ const K: [u32; 64] = [
 ];
 
 /// Section 5.3.3: the initial hash value.
-const H0: [u32; 8] = [0x6a09e667, 0xbb67ae85, 0x3c6ef372, 0xa54ff53a, 0x510e527f, 0x9b05688c, 0x1f83d9ab, 0x5be0cd19];
+pub const H0: [u32; 8] =
+    [0x6a09e667, 0xbb67ae85, 0x3c6ef372, 0xa54ff53a, 0x510e527f, 0x9b05688c, 0x1f83d9ab, 0x5be0cd19];
 
 /// From here on a message has 2^64 bits or more, and section 5.1.1 has no room for its length.
 pub const LIMIT: u64 = 1 << 61;
@@ -48,7 +49,7 @@ fn padded_end(message: &[u8], whole: usize) -> Vec<u8> {
 }
 
 /// Section 6.2.2: the hash value after one more block.
-fn compress(hash: [u32; 8], block: &[u8]) -> [u32; 8] {
+pub fn compress(hash: [u32; 8], block: &[u8]) -> [u32; 8] {
     let w = schedule(block);
     let [mut a, mut b, mut c, mut d, mut e, mut f, mut g, mut h] = hash;
     for t in 0..64 {

@@ -4,7 +4,7 @@ use super::roots::are_roots;
 
 /// Section 4.2.3: the first 64 bits of the fractional parts of the cube roots of the first 80 primes.
 #[rustfmt::skip]
-const K: [u64; 80] = [
+pub const K: [u64; 80] = [
     0x428a2f98d728ae22, 0x7137449123ef65cd, 0xb5c0fbcfec4d3b2f, 0xe9b5dba58189dbbc, 0x3956c25bf348b538,
     0x59f111f1b605d019, 0x923f82a4af194f9b, 0xab1c5ed5da6d8118, 0xd807aa98a3030242, 0x12835b0145706fbe,
     0x243185be4ee4b28c, 0x550c7dc3d5ffb4e2, 0x72be5d74f27b896f, 0x80deb1fe3b1696b1, 0x9bdc06a725c71235,
@@ -25,7 +25,7 @@ const K: [u64; 80] = [
 
 /// Section 5.3.4: SHA-384's initial hash value, the first 64 bits of the fractional parts of the square roots of the
 /// ninth to sixteenth primes.
-const H0_384: [u64; 8] = [
+pub const H0_384: [u64; 8] = [
     0xcbbb9d5dc1059ed8,
     0x629a292a367cd507,
     0x9159015a3070dd17,
@@ -37,7 +37,7 @@ const H0_384: [u64; 8] = [
 ];
 
 /// Section 5.3.5: SHA-512's initial hash value, the same of the first eight primes.
-const H0_512: [u64; 8] = [
+pub const H0_512: [u64; 8] = [
     0x6a09e667f3bcc908,
     0xbb67ae8584caa73b,
     0x3c6ef372fe94f82b,

@@ -2,10 +2,11 @@
 //! writes the buffer in some, held to the record book. The book sees of each call only what document 01 lets it see,
 //! never the state or the buffer's bytes.
 
-use crate::calls::{Call, Case, Outcome, call_model};
+use crate::calls::{Call, call_model};
+use crate::case::{Case, Outcome};
 use crate::ffi::log_bytes;
 use crate::generate::comparison::{alike, other_digests};
-use crate::generate::log::{Pool, book, buffer_place, other_buffer, pmr, record};
+use crate::generate::log::{Pool, book, other_buffer, pmr, record};
 use crate::generate::log_state::unread;
 use crate::generate::{damage, size, wrong_len};
 use crate::harness::Harness;
@@ -159,7 +160,7 @@ impl Run {
             self.earlier.clone_from(&self.buffer);
         }
         let case = self.case(step, self.buffer.clone(), rng);
-        let place = buffer_place(case.call);
+        let place = case.call.place("buffer");
         let expected = self.expected(step, &case);
         let mut found = harness.expect_outcome(case, expected)?;
         self.buffer = found.lent.swap_remove(place);
@@ -194,7 +195,7 @@ impl Run {
         }
         expected.lent[0] = log_bytes(&self.book.state());
         if !self.written_by_others {
-            expected.lent[buffer_place(case.call)] = self.book.buffer();
+            expected.lent[case.call.place("buffer")] = self.book.buffer();
         }
         expected
     }

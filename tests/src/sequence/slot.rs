@@ -1,6 +1,7 @@
 //! Lists of slot calls and commands: transfers in pieces of all sizes, with refused calls among them.
 
-use crate::calls::{Call, Case};
+use crate::calls::Call;
+use crate::case::Case;
 use crate::ffi::{SLOT_LEN, slot_bytes, slot_numbers};
 use crate::generate::message::{ACTIVATE, GET, PREPARE, UPDATE, of};
 use crate::generate::slot::{Header, manifest_len, signature, total};
@@ -159,12 +160,9 @@ impl Run {
         if rng.chance(50) {
             case.lent[0] = slot_bytes(&Numbers { received: 5000, ..self.state() });
         } else {
-            let places: &[usize] = match case.call {
-                Call::Command => &[2, 3, 4],
-                Call::SlotUpdate => &[2, 3],
-                _ => &[1, 2],
-            };
-            let place = rng.pick(places);
+            let buffers: &[&str] =
+                if case.call == Call::Command { &["pending", "active", "response"] } else { &["pending", "active"] };
+            let place = case.call.place(rng.pick(buffers));
             let right = case.lent[place].len();
             case.lent[place].resize(wrong_len(right, rng), 0);
         }
@@ -173,15 +171,11 @@ impl Run {
 
     /// What the library left is what the next call is given.
     fn keep(&mut self, call: Call, mut lent: Vec<Vec<u8>>) {
-        let first = match call {
-            Call::SlotUpdate | Call::Command => 2,
-            _ => 1,
-        };
         self.slot = std::mem::take(&mut lent[0]);
-        self.pending = std::mem::take(&mut lent[first]);
-        self.active = std::mem::take(&mut lent[first + 1]);
+        self.pending = std::mem::take(&mut lent[call.place("pending")]);
+        self.active = std::mem::take(&mut lent[call.place("active")]);
         if call == Call::Command {
-            self.response = std::mem::take(&mut lent[4]);
+            self.response = std::mem::take(&mut lent[call.place("response")]);
         }
     }
 }

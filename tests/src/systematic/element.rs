@@ -1,6 +1,7 @@
 //! Manifest elements.
 
-use crate::calls::{Call, Case};
+use crate::calls::Call;
+use crate::case::Case;
 use crate::generate::element::{hash_len, image, read_region, read_rw_region, root_cas, root_cas_bytes, signed_image};
 use crate::harness::Harness;
 use crate::rng::Rng;

@@ -1,7 +1,7 @@
 //! The measurement log: its buffer, its texts, and every set of broken rules.
 
 use super::broken;
-use crate::calls::Call;
+use crate::calls::{BY_STATE, Call, JUDGING, OVER_STATE};
 use crate::generate::comparison::alike;
 use crate::generate::damage;
 use crate::generate::log::{book, legacy_text, of_records, of_replay, of_reset, of_state, of_text_verdict};
@@ -9,13 +9,6 @@ use crate::generate::log_state::{break_sum, exceed, other_count, set_total};
 use crate::harness::Harness;
 use crate::model::log::{BUFFER_LEN, Book, CAPACITY, ENTRY_LEN, PMRS, State};
 use crate::rng::Rng;
-
-/// The calls that go by the state alone, whatever the buffer holds, and those that hold the buffer to it.
-pub const BY_STATE: [Call; 2] = [Call::LogRecord, Call::LogRegister];
-pub const JUDGING: [Call; 3] = [Call::LogReadOut, Call::LogReadOutVerdict, Call::LogCheck];
-pub const OVER_STATE: [Call; 5] =
-    [Call::LogRecord, Call::LogRegister, Call::LogReadOut, Call::LogReadOutVerdict, Call::LogCheck];
-pub const OVER_TEXT: [Call; 2] = [Call::LogReplay, Call::LogTextVerdict];
 
 /// These calls on one state and buffer.
 pub fn run_calls(harness: &mut Harness, calls: &[Call], state: &State, buffer: &[u8], rng: &mut Rng) {
@@ -56,7 +49,7 @@ pub fn damaged_texts(harness: &mut Harness, entries: usize, rng: &mut Rng) {
 pub fn sizes(harness: &mut Harness, rng: &mut Rng) {
     for entries in 0..=CAPACITY {
         let book = book(entries, rng);
-        run_calls(harness, &OVER_STATE, &book.state(), &book.buffer(), rng);
+        run_calls(harness, OVER_STATE, &book.state(), &book.buffer(), rng);
         run_text(harness, book.text(), rng);
         let far: Vec<u64> = (0..40).map(|_| other_count(entries as u64, rng)).collect();
         for count in (0..=70).chain(far) {
@@ -66,7 +59,7 @@ pub fn sizes(harness: &mut Harness, rng: &mut Rng) {
             } else {
                 state.count = count;
             }
-            run_calls(harness, &[rng.pick(&BY_STATE), rng.pick(&JUDGING)], &state, &book.buffer(), rng);
+            run_calls(harness, &[rng.pick(BY_STATE), rng.pick(JUDGING)], &state, &book.buffer(), rng);
         }
     }
 }
@@ -75,7 +68,7 @@ pub fn sizes(harness: &mut Harness, rng: &mut Rng) {
 pub fn pmrs(harness: &mut Harness, rng: &mut Rng) {
     for entries in [0, 1, 7, 63, 64] {
         let book = book(entries, rng);
-        for (pmr, call) in (0..=255).flat_map(|pmr| BY_STATE.map(|call| (pmr, call))) {
+        for (pmr, call) in (0..=255).flat_map(|pmr| BY_STATE.iter().map(move |&call| (pmr, call))) {
             harness.run(of_state(call, &book.state(), pmr, book.buffer(), rng));
         }
     }
@@ -92,9 +85,9 @@ pub fn pmr_bytes(harness: &mut Harness, rng: &mut Rng) {
                 buffer[entry * ENTRY_LEN + 12] = pmr;
                 let text = &buffer[..entries * ENTRY_LEN];
                 run_text(harness, text, rng);
-                run_calls(harness, &OVER_STATE, &book.state(), &buffer, rng);
+                run_calls(harness, OVER_STATE, &book.state(), &buffer, rng);
                 if let Ok(other) = Book::of_text(text) {
-                    run_calls(harness, &JUDGING, &other.state(), &buffer, rng);
+                    run_calls(harness, JUDGING, &other.state(), &buffer, rng);
                 }
             }
         }
@@ -109,11 +102,11 @@ pub fn other_runs(harness: &mut Harness, rng: &mut Rng) {
         for at in 0..entries {
             let mut records = book.records().to_vec();
             records[at].event_type ^= 1 << rng.below(32);
-            run_calls(harness, &OVER_STATE, &book.state(), &of_records(&records).buffer(), rng);
+            run_calls(harness, OVER_STATE, &book.state(), &of_records(&records).buffer(), rng);
             records[at].digest[rng.below(32)] ^= 1 << rng.below(8);
-            run_calls(harness, &OVER_STATE, &book.state(), &of_records(&records).buffer(), rng);
+            run_calls(harness, OVER_STATE, &book.state(), &of_records(&records).buffer(), rng);
         }
-        run_calls(harness, &OVER_STATE, &book.state(), &alike(&book, rng).buffer(), rng);
+        run_calls(harness, OVER_STATE, &book.state(), &alike(&book, rng).buffer(), rng);
     }
 }
 
@@ -126,7 +119,7 @@ pub fn buffer_lengths(harness: &mut Harness, rng: &mut Rng) {
         let held = rng.bytes(len);
         harness.run(of_reset(held, rng));
         harness.run(of_replay(book.text().to_vec(), buffer.clone(), rng));
-        run_calls(harness, &[rng.pick(&BY_STATE), rng.pick(&JUDGING)], &book.state(), &buffer, rng);
+        run_calls(harness, &[rng.pick(BY_STATE), rng.pick(JUDGING)], &book.state(), &buffer, rng);
     }
 }
 
@@ -157,7 +150,7 @@ pub fn refusals_at_once(harness: &mut Harness, rng: &mut Rng) {
         for _ in 0..8 {
             let entries = if broken(set, 0) { CAPACITY } else { rng.below(CAPACITY) };
             let book = book(entries, rng);
-            for call in OVER_STATE {
+            for &call in OVER_STATE {
                 let pmr = if broken(set, 1) { 5 + rng.byte() % 251 } else { rng.below(PMRS) as u8 };
                 let (state, buffer) = (broken_state(set, &book, rng), broken_buffer(set, &book, rng));
                 harness.run(of_state(call, &state, pmr, buffer, rng));

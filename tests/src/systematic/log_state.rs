@@ -1,6 +1,7 @@
 //! The state of a log: every byte, every bit of its numbers, and numbers that seem to add up.
 
-use super::log::{BY_STATE, JUDGING, OVER_STATE, run_calls};
+use super::log::run_calls;
+use crate::calls::{BY_STATE, JUDGING, OVER_STATE};
 use crate::ffi::{log_bytes, log_state};
 use crate::generate::damage;
 use crate::generate::log::{Pool, of_state, other_buffer, record};
@@ -27,7 +28,7 @@ fn of_numbers(numbers: [usize; PMRS], rng: &mut Rng) -> Book {
 
 /// Both calls that go by the state, for each PMR and past the last.
 fn run_each_pmr(harness: &mut Harness, state: &State, buffer: &[u8], rng: &mut Rng) {
-    for (pmr, call) in (0..=PMRS as u8).flat_map(|pmr| BY_STATE.map(|call| (pmr, call))) {
+    for (pmr, call) in (0..=PMRS as u8).flat_map(|pmr| BY_STATE.iter().map(move |&call| (pmr, call))) {
         harness.run(of_state(call, state, pmr, buffer.to_vec(), rng));
     }
 }
@@ -40,7 +41,7 @@ pub fn bytes(harness: &mut Harness, rng: &mut Rng) {
             let mut changed = own.clone();
             damage(&mut changed, at, rng);
             let state = log_state(&changed);
-            run_calls(harness, &JUDGING, &state, &book.buffer(), rng);
+            run_calls(harness, JUDGING, &state, &book.buffer(), rng);
             run_each_pmr(harness, &state, &book.buffer(), rng);
             let held = rng.filling(BUFFER_LEN);
             run_each_pmr(harness, &state, &held, rng);
@@ -54,10 +55,10 @@ pub fn number_bits(harness: &mut Harness, rng: &mut Rng) {
         for (place, bit) in (0..NUMBERS).flat_map(|place| (0..64).map(move |bit| (place, bit))) {
             let mut state = book.state();
             *number(&mut state, place) ^= 1 << bit;
-            run_calls(harness, &OVER_STATE, &state, &book.buffer(), rng);
+            run_calls(harness, OVER_STATE, &state, &book.buffer(), rng);
             if place > 0 {
                 state.count ^= 1 << bit;
-                run_calls(harness, &OVER_STATE, &state, &book.buffer(), rng);
+                run_calls(harness, OVER_STATE, &state, &book.buffer(), rng);
             }
         }
     }
@@ -81,18 +82,18 @@ pub fn pairs(harness: &mut Harness, rng: &mut Rng) {
 fn pair(harness: &mut Harness, book: &Book, one: usize, other: usize, rng: &mut Rng) {
     let mut exchanged = book.state();
     exchanged.pmrs.swap(one, other);
-    run_calls(harness, &OVER_STATE, &exchanged, &book.buffer(), rng);
+    run_calls(harness, OVER_STATE, &exchanged, &book.buffer(), rng);
     exchange_registers(&mut exchanged, one, other);
-    run_calls(harness, &OVER_STATE, &exchanged, &book.buffer(), rng);
+    run_calls(harness, OVER_STATE, &exchanged, &book.buffer(), rng);
     let mut exchanged = book.state();
     exchange_registers(&mut exchanged, one, other);
-    run_calls(harness, &OVER_STATE, &exchanged, &book.buffer(), rng);
+    run_calls(harness, OVER_STATE, &exchanged, &book.buffer(), rng);
     for entries in MOVED {
         let mut state = book.state();
         move_between(&mut state, one, other, entries);
-        run_calls(harness, &OVER_STATE, &state, &book.buffer(), rng);
+        run_calls(harness, OVER_STATE, &state, &book.buffer(), rng);
         state.pmrs[one].entries = book.state().pmrs[one].entries;
-        run_calls(harness, &OVER_STATE, &state, &book.buffer(), rng);
+        run_calls(harness, OVER_STATE, &state, &book.buffer(), rng);
     }
 }
 
@@ -104,7 +105,7 @@ pub fn without_entries(harness: &mut Harness, rng: &mut Rng) {
         for _ in 0..2 {
             let buffer = other_buffer(&Book::empty(), &pool, rng);
             for held in [buffer, vec![0; BUFFER_LEN]] {
-                run_calls(harness, &JUDGING, &state, &held, rng);
+                run_calls(harness, JUDGING, &state, &held, rng);
                 run_each_pmr(harness, &state, &held, rng);
             }
             damage(&mut state.pmrs[rng.below(PMRS)].register, rng.below(32), rng);

@@ -2,7 +2,8 @@
 
 use super::broken;
 use super::slot::{IDLE, ready_pending};
-use crate::calls::{Call, Case};
+use crate::calls::Call;
+use crate::case::Case;
 use crate::generate::message::{ACTIVATE, COMMANDS, GET, PREPARE, UPDATE, of, of_message};
 use crate::harness::Harness;
 use crate::model::slot::{BUFFER_LEN, Numbers};

@@ -1,7 +1,8 @@
 //! The manifest slot.
 
 use super::broken;
-use crate::calls::{Call, Case};
+use crate::calls::Call;
+use crate::case::Case;
 use crate::ffi::slot_bytes;
 use crate::generate::message::{COMMANDS, of, of_message};
 use crate::generate::size;
