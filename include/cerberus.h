@@ -318,7 +318,10 @@ uint8_t cerberus_rw_region_write(uint8_t operation, uint32_t start, uint32_t end
  * must_validate is 0 or 1 (a writer refuses another number with 12). */
 uint8_t cerberus_signed_image_read(const uint8_t *element, size_t element_len, uint8_t *hash_type, uint8_t *region_count,
                                    uint8_t *must_validate, size_t *hash_len);
-/* Region index, from 0; 12 also where there is no such region. */
+/* Region index, from 0; 12 also where there is no such region. Each call judges
+ * the whole element. To walk all regions, read the image once: region k is then
+ * what cerberus_region_read gives of the 8 bytes of element from
+ * 4 + *hash_len + 8 * k on. */
 uint8_t cerberus_signed_image_region(const uint8_t *element, size_t element_len, size_t index, uint32_t *start, uint32_t *end);
 uint8_t cerberus_signed_image_write(uint8_t hash_type, uint8_t must_validate, const uint8_t *hash, size_t hash_len,
                                     const uint8_t *regions, size_t regions_len, uint8_t *buffer, size_t buffer_len);

@@ -1,104 +1,91 @@
 -- What the C calls answer and leave, by the definitions of the calls that they stand for. A refused call writes to no pointer.
 use Prim.Native.Nat.{ℕ, _+_, _*_}
-use mathlib.Core.Bool.{_||_, cond}
-use mathlib.Core.List.{List}
+use mathlib.Core.Bool.{Bool, cond}
+use mathlib.Core.List.{List, []}
 use mathlib.Core.Option.{Option, none, some}
 use lib.ListN.{length}
-use lib.Dec.{leb, ltb, eqb}
-use Rattle.refusal.specs.declared.Refusal.{Refusal}
-use Rattle.refusal.specs.declared.Refusal.the-variants.{ForeignHeader, BadLength, WrongBuffer, UnsoundState, OutOfRange, OutOfStep, LogFull, BadManifestHeader, StaleVersion, BadSignature, NotOffered, MalformedElement}
+use lib.Dec.{ltb, eqb}
+use Rattle.refusal.specs.declared.Verdict.{Verdict}
+use Rattle.refusal.specs.declared.Verdict.the-variants.{Accepted, Refused}
+use Rattle.refusal.specs.Refusals.{numberOf, verdictOf, meaningOf, longestMeaning}
+use Rattle.refusal.specs.Steps.{Outcome, outcome, decided}
+use Rattle.octets.specs.Octets.{pasted}
 use Rattle.refusal.specs.Rules.{_when_else_, first_then_}
-use Rattle.manifest.specs.declared.Slot.{Slot}
-use Rattle.manifest.specs.declared.Role.{Role}
-use Rattle.manifest.specs.declared.Role
-use Rattle.manifest.specs.Calls.{lentNumber, manifestPart}
+use Rattle.manifest_slot.specs.Slot.{Held}
+use Rattle.manifest_slot.specs.declared.Role.{Role}
+use Rattle.manifest_slot.specs.declared.Role
+use Rattle.manifest_slot.specs.Calls.{lentNumber, manifestOf}
+use Rattle.laws.specs.Tests.{bitOf}
+use Rattle.certificate_slots.specs.Slots.{chainCount, lowestChain}
 use Rattle.hash.specs.Types.{hashLength}
-use Rattle.elements.specs.declared.region.Region.{Region}
-use Rattle.elements.specs.Parts.{writtenBy}
-use Rattle.elements.specs.Region.{regionLength, regionAt}
-use Rattle.elements.specs.RwRegion.{badOperation, RwFields, rwRegionBytes, rwRegionWriteNumber}
-use Rattle.elements.specs.SignedImage.{regionCountOf, regionsOf, imageNumber, imageBytes, imageWriteNumber}
+use Rattle.regions.specs.declared.region.Region.{Region}
+use Rattle.regions.specs.RwRegion.{RwFields}
+use Rattle.elements.specs.declared.signed_image.SignedImage.{SignedImage}
+use Rattle.elements.specs.declared.root_cas.RootCas.{RootCas}
 use Rattle.elements.specs.RootCas.{rootsHeadLength}
 
 -- ---- the refusals' meaning: "3 text has under 80 bytes; 5 number is not 1 to 12"
 
--- the refusal with this number; the last, where there is none
-unfoldable pub refusalOf : ℕ → Refusal
-refusalOf n =
-    cond (eqb n 1) ForeignHeader
-    (cond (eqb n 2) BadLength
-    (cond (eqb n 3) WrongBuffer
-    (cond (eqb n 4) UnsoundState
-    (cond (eqb n 5) OutOfRange
-    (cond (eqb n 6) OutOfStep
-    (cond (eqb n 7) LogFull
-    (cond (eqb n 8) BadManifestHeader
-    (cond (eqb n 9) StaleVersion
-    (cond (eqb n 10) BadSignature
-    (cond (eqb n 11) NotOffered
-    MalformedElement))))))))))
-
--- no meaning is longer
-abbrev pub longestMeaning : ℕ
-longestMeaning = 80
+-- no refusal has this number
+abbrev pub noRefusal : ℕ → Bool
+noRefusal n = eqb (numberOf (verdictOf n)) 0
 
 unfoldable pub meaningNumber : ℕ → List ℕ → ℕ
 meaningNumber n text =
     3 when ltb (length text) longestMeaning else
-    5 when (ltb n 1 || ltb 12 n) else
+    5 when noRefusal n else
     0
+
+abbrev pub meaningBytes : Verdict → List ℕ
+meaningBytes Accepted = []
+meaningBytes (Refused why) = meaningOf why
+
+-- the text and the length behind the pointers
+unfoldable pub meaningStep : ℕ → List ℕ → ℕ → Outcome (List ℕ × ℕ)
+meaningStep n text len =
+    let meaning = meaningBytes (verdictOf n) in
+    decided (meaningNumber n text) (text, len) (pasted text 0 meaning, length meaning)
 
 -- ---- the manifest of a role: "0 active, 1 pending"; another number is 5, after the slot's own refusals
-
-unfoldable pub manifestNumber : Slot → ℕ → List ℕ → List ℕ → ℕ
-manifestNumber s role pending active =
-    first lentNumber s pending active then
-    5 when ltb 1 role else
-    0
 
 abbrev pub roleOf : ℕ → Role
 roleOf n = cond (eqb n 0) Role.Active Role.Pending
 
--- "the first *length bytes of active or of pending"
-abbrev pub manifestLength : Slot → ℕ → List ℕ → List ℕ → ℕ
-manifestLength s role pending active = length (manifestPart s (roleOf role) pending active)
-
--- ---- the elements' writers: "a writer refuses a number above 3 with 12", and "another number" than 0 or 1
-
-abbrev pub rwRegionNumberWritten : RwFields → List ℕ → ℕ
-rwRegionNumberWritten f buffer =
-    12 when badOperation (f .operation) else
-    rwRegionWriteNumber f buffer
-
-abbrev pub rwRegionBytesWritten : RwFields → List ℕ → List ℕ
-rwRegionBytesWritten f buffer = writtenBy (rwRegionNumberWritten f buffer) (rwRegionBytes f) buffer
-
-abbrev pub imageNumberWritten : ℕ → ℕ → List ℕ → List ℕ → List ℕ → ℕ
-imageNumberWritten hashType mustValidate hash regions buffer =
-    12 when ltb 1 mustValidate else
-    imageWriteNumber hashType hash regions buffer
-
-abbrev pub imageBytesWritten : ℕ → ℕ → List ℕ → List ℕ → List ℕ → List ℕ
-imageBytesWritten hashType mustValidate hash regions buffer =
-    writtenBy (imageNumberWritten hashType mustValidate hash regions buffer) (imageBytes hashType (eqb mustValidate 1) hash regions) buffer
-
--- ---- one region or one hash by its index: "12 also where there is no such region"
-
-unfoldable pub imageRegionNumber : List ℕ → ℕ → ℕ
-imageRegionNumber b index =
-    first imageNumber b then
-    12 when leb (regionCountOf b) index else
+unfoldable pub manifestNumber : ℕ → Held → ℕ
+manifestNumber role h =
+    first lentNumber h then
+    5 when ltb 1 role else
     0
 
-abbrev pub imageRegionAt : List ℕ → ℕ → Region
-imageRegionAt b index = regionAt (regionsOf b) (regionLength * index)
+unfoldable pub manifestStep : ℕ → Held → Outcome (List ℕ)
+manifestStep role h = decided (manifestNumber role h) [] (manifestOf (roleOf role) h)
 
--- where the hash begins in the element
-abbrev pub rootsHashOffset : ℕ → ℕ → ℕ
-rootsHashOffset hashType index = rootsHeadLength + hashLength hashType * index
+-- ---- what the elements' readers show behind pointers
+
+abbrev pub addresses : Region → ℕ × ℕ
+addresses r = (r .start, r .end)
+
+abbrev pub rwValues : RwFields → ℕ × ℕ × ℕ
+rwValues f = (f .operation, f .region .start, f .region .end)
+
+-- hash type, region count, must-validate bit, and the hash's length
+abbrev pub imageValues : SignedImage → ℕ × ℕ × ℕ × ℕ
+imageValues i = (i .«hash_type», i .«region_count», bitOf (i .«must_validate»), hashLength (i .«hash_type»))
+
+-- count, and each hash's length
+abbrev pub rootsValues : ℕ → RootCas → ℕ × ℕ
+rootsValues hashType r = (r .count, hashLength hashType)
+
+-- where a hash begins in the element, and its length
+abbrev pub hashPlace : ℕ → ℕ → ℕ × ℕ
+hashPlace hashType index = (rootsHeadLength + hashLength hashType * index, hashLength hashType)
 
 -- ---- certificate slots: the lowest slot, "or CERBERUS_NO_CHAIN if none does"
 
 abbrev pub slotNumber : Option ℕ → ℕ
 slotNumber none = 255
 slotNumber (some k) = k
+
+-- how many slots hold a chain, and the lowest that does
+abbrev pub chainsTold : ℕ → Outcome (ℕ × ℕ)
+chainsTold mask = outcome 0 (chainCount mask, slotNumber (lowestChain mask))

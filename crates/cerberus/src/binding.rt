@@ -3,16 +3,15 @@ use certificate_slots::Lowest;
 use certificate_slots::SlotMask;
 use pairing::pairing_key;
 ghost use mathlib.Core.Path.{_≡_};
-ghost use Rattle.pairing.specs.Pairing.{pairingNumber, pairingBuffer};
-ghost use Rattle.certificate_slots.specs.Slots.{chainCount, lowestChain};
-ghost use Rattle.cerberus.specs.Calls.{slotNumber};
+ghost use Rattle.refusal.specs.Steps.{outcome};
+ghost use Rattle.pairing.specs.Pairing.{pairingStep};
+ghost use Rattle.cerberus.specs.Calls.{chainsTold};
 
 const NO_CHAIN: u8 = 255;
 
 #[no_mangle]
 pub extern "C" fn cerberus_pairing_key(session_key: &[u8], key: &mut [u8]) -> u8
-    ensures number { λ r. ⌜ r ≡ pairingNumber (now («session_key» .entry)) (now (key .entry)) ⌝ }
-    ensures key { λ _. ⌜ now (key .exit) ≡ pairingBuffer (now («session_key» .entry)) (now (key .entry)) ⌝ }
+    ensures { λ r. ⌜ outcome r (now (key .exit)) ≡ pairingStep (now («session_key» .entry)) (now (key .entry)) ⌝ }
 {
     let verdict = pairing_key(session_key, key);
     verdict.number()
@@ -20,9 +19,7 @@ pub extern "C" fn cerberus_pairing_key(session_key: &[u8], key: &mut [u8]) -> u8
 
 #[no_mangle]
 pub extern "C" fn cerberus_certificate_slots(mask: u8, count: &mut u8, lowest: &mut u8) -> u8
-    ensures number { λ r. ⌜ r ≡ 0 ⌝ }
-    ensures count { λ _. ⌜ now (count .exit) ≡ chainCount mask ⌝ }
-    ensures lowest { λ _. ⌜ now (lowest .exit) ≡ slotNumber (lowestChain mask) ⌝ }
+    ensures { λ r. ⌜ outcome r (now (count .exit), now (lowest .exit)) ≡ chainsTold mask ⌝ }
 {
     let slots = SlotMask(mask);
     *count = slots.chain_count();

@@ -2,8 +2,9 @@
 use hash::hash_into;
 use hash::hash_matches;
 ghost use mathlib.Core.Path.{_≡_};
-ghost use Rattle.hash.specs.Calls.{outcome, hashStep, hashMatches};
-ghost use Rattle.elements.specs.SignedImage.{bitOf};
+ghost use Rattle.refusal.specs.Steps.{outcome};
+ghost use Rattle.hash.specs.Calls.{hashStep, hashMatches};
+ghost use Rattle.laws.specs.Tests.{bitOf};
 
 #[no_mangle]
 pub extern "C" fn cerberus_hash(hash_type: u8, message: &[u8], hash: &mut [u8]) -> u8
@@ -20,8 +21,7 @@ pub extern "C" fn cerberus_hash_matches(
     hash: &[u8],
     matches: &mut u8,
 ) -> u8
-    ensures number { λ r. ⌜ r ≡ 0 ⌝ }
-    ensures matches { λ _. ⌜ now (matches .exit) ≡ bitOf (hashMatches «hash_type» (now (message .entry)) (now (hash .entry))) ⌝ }
+    ensures { λ r. ⌜ outcome r (now (matches .exit)) ≡ outcome 0 (bitOf (hashMatches «hash_type» (now (message .entry)) (now (hash .entry)))) ⌝ }
 {
     *matches = hash_matches(hash_type, message, hash) as u8;
     0

@@ -3,13 +3,11 @@
 pub mod binding;
 pub mod comparisons;
 pub mod digests;
+pub mod flash_regions;
 pub mod hashes;
 pub mod images;
 pub mod log;
-mod log_states;
 pub mod messages;
 pub mod refusals;
-pub mod regions;
 pub mod roots;
-mod slot_numbers;
 pub mod slots;

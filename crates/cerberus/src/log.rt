@@ -1,21 +1,20 @@
 // The measurement log: its state is bytes behind a pointer.
-use crate::log_states::LOG_LEN;
-use crate::log_states::bytes_of;
-use crate::log_states::log_of;
 use attestation_log::Answer;
 use attestation_log::Log;
 use attestation_log::Pmr;
+use c_encoding::log_states::LOG_LEN;
+use c_encoding::log_states::bytes_of;
+use c_encoding::log_states::log_of;
 use refusal::Verdict;
 ghost use mathlib.Core.Path.{_≡_};
-ghost use Rattle.refusal.specs.Number.{numberOf};
-ghost use Rattle.refusal.specs.Rules.{accepted_then_else_};
+ghost use Rattle.refusal.specs.Refusals.{numberOf};
+ghost use Rattle.refusal.specs.Steps.{outcome, decided};
 ghost use Rattle.attestation_log.specs.Calls.{resetStep, recordStep, registerStep, readOutStep, readOutVerdictStep, checkStep, replayStep};
-ghost use Rattle.cerberus.specs.LogStates.{logBytes, logOf, logAfter, valueAfter, lengthAfter};
+ghost use Rattle.c_encoding.specs.Logs.{logBytes, logOf, cLog, logStep, bytesRead, lengthRead};
 
 // Keeps the next state of an accepted call, and answers the call's number.
 fn store(log: &mut [u8; LOG_LEN], answer: Answer) -> u8
-    ensures number { λ r. ⌜ r ≡ numberOf (answer .verdict) ⌝ }
-    ensures log { λ _. ⌜ now (log .exit) ≡ (accepted numberOf (answer .verdict) then logBytes (answer .log) else now (log .entry)) ⌝ }
+    ensures { λ r. ⌜ outcome r (now (log .exit)) ≡ decided (numberOf (answer .verdict)) (now (log .entry)) (logBytes (answer .log)) ⌝ }
 {
     let verdict = answer.verdict;
     match verdict {
@@ -30,9 +29,7 @@ fn store(log: &mut [u8; LOG_LEN], answer: Answer) -> u8
 
 #[no_mangle]
 pub extern "C" fn cerberus_log_reset(log: &mut [u8; LOG_LEN], buffer: &mut [u8]) -> u8
-    ensures number { λ r. ⌜ r ≡ resetStep (logOf (now (log .entry))) (now (buffer .entry)) .number ⌝ }
-    ensures log { λ _. ⌜ now (log .exit) ≡ logAfter (resetStep (logOf (now (log .entry))) (now (buffer .entry))) (now (log .entry)) ⌝ }
-    ensures buffer { λ _. ⌜ now (buffer .exit) ≡ resetStep (logOf (now (log .entry))) (now (buffer .entry)) .buffer ⌝ }
+    ensures { λ r. ⌜ outcome r (cLog (now (log .exit)) (now (buffer .exit))) ≡ logStep resetStep (cLog (now (log .entry)) (now (buffer .entry))) ⌝ }
 {
     let answer = Log::reset(buffer);
     store(log, answer)
@@ -46,9 +43,8 @@ pub extern "C" fn cerberus_log_record(
     digest: &[u8; 32],
     buffer: &mut [u8],
 ) -> u8
-    ensures number { λ r. ⌜ r ≡ recordStep (record { pmr = pmr; eventType = «event_type»; digest = now (digest .entry) }) (logOf (now (log .entry))) (now (buffer .entry)) .number ⌝ }
-    ensures log { λ _. ⌜ now (log .exit) ≡ logAfter (recordStep (record { pmr = pmr; eventType = «event_type»; digest = now (digest .entry) }) (logOf (now (log .entry))) (now (buffer .entry))) (now (log .entry)) ⌝ }
-    ensures buffer { λ _. ⌜ now (buffer .exit) ≡ recordStep (record { pmr = pmr; eventType = «event_type»; digest = now (digest .entry) }) (logOf (now (log .entry))) (now (buffer .entry)) .buffer ⌝ }
+    ensures { λ r. ⌜ outcome r (cLog (now (log .exit)) (now (buffer .exit)))
+        ≡ logStep (recordStep (record { pmr = pmr; eventType = «event_type»; digest = now (digest .entry) })) (cLog (now (log .entry)) (now (buffer .entry))) ⌝ }
 {
     let state = *log;
     let bytes = *digest;
@@ -63,8 +59,7 @@ pub extern "C" fn cerberus_log_register(
     buffer: &[u8],
     value: &mut [u8; 32],
 ) -> u8
-    ensures number { λ r. ⌜ r ≡ registerStep pmr (logOf (now (log .entry))) (now (buffer .entry)) .number ⌝ }
-    ensures value { λ _. ⌜ now (value .exit) ≡ valueAfter (registerStep pmr (logOf (now (log .entry))) (now (buffer .entry))) (now (value .entry)) ⌝ }
+    ensures { λ r. ⌜ outcome r (now (value .exit)) ≡ bytesRead (registerStep pmr) (cLog (now (log .entry)) (now (buffer .entry))) (now (value .entry)) ⌝ }
 {
     let state = *log;
     let read = log_of(state).register(Pmr(pmr), buffer);
@@ -85,8 +80,7 @@ pub extern "C" fn cerberus_log_read_out(
     buffer: &[u8],
     text_len: &mut usize,
 ) -> u8
-    ensures number { λ r. ⌜ r ≡ readOutStep (logOf (now (log .entry))) (now (buffer .entry)) .number ⌝ }
-    ensures length { λ _. ⌜ now («text_len» .exit) ≡ lengthAfter (readOutStep (logOf (now (log .entry))) (now (buffer .entry))) (now («text_len» .entry)) ⌝ }
+    ensures { λ r. ⌜ outcome r (now («text_len» .exit)) ≡ lengthRead readOutStep (cLog (now (log .entry)) (now (buffer .entry))) (now («text_len» .entry)) ⌝ }
 {
     let bytes = *log;
     let state = log_of(bytes);
@@ -118,9 +112,7 @@ pub extern "C" fn cerberus_log_check(log: &[u8; LOG_LEN], buffer: &[u8]) -> u8
 
 #[no_mangle]
 pub extern "C" fn cerberus_log_replay(log: &mut [u8; LOG_LEN], text: &[u8], buffer: &mut [u8]) -> u8
-    ensures number { λ r. ⌜ r ≡ replayStep (now (text .entry)) (logOf (now (log .entry))) (now (buffer .entry)) .number ⌝ }
-    ensures log { λ _. ⌜ now (log .exit) ≡ logAfter (replayStep (now (text .entry)) (logOf (now (log .entry))) (now (buffer .entry))) (now (log .entry)) ⌝ }
-    ensures buffer { λ _. ⌜ now (buffer .exit) ≡ replayStep (now (text .entry)) (logOf (now (log .entry))) (now (buffer .entry)) .buffer ⌝ }
+    ensures { λ r. ⌜ outcome r (cLog (now (log .exit)) (now (buffer .exit))) ≡ logStep (replayStep (now (text .entry))) (cLog (now (log .entry)) (now (buffer .entry))) ⌝ }
 {
     let answer = Log::replay(text, buffer);
     store(log, answer)

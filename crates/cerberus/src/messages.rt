@@ -1,21 +1,27 @@
 // Cerberus messages.
-use crate::slot_numbers::numbers_of;
-use crate::slot_numbers::slot_of;
-use protocol::command;
-use protocol::header_verdict;
+use c_encoding::slot_numbers::numbers_of;
+use c_encoding::slot_numbers::slot_of;
+use commands::command;
+use message_header::Heading;
+use message_header::command_of;
 use refusal::Verdict;
 ghost use mathlib.Core.Path.{_≡_};
 ghost use lib.Dec.{eqb};
-ghost use Rattle.refusal.specs.Rules.{accepted_then_else_};
-ghost use Rattle.protocol.specs.Header.{headerNumber};
-ghost use Rattle.protocol.specs.Command.{commandEffect};
-ghost use Rattle.cerberus.specs.States.{slotOf, numbersOf};
+ghost use Rattle.refusal.specs.Steps.{outcome};
+ghost use Rattle.message_header.specs.Header.{commandOf};
+ghost use Rattle.commands.specs.Commands.{commandStep};
+ghost use Rattle.c_encoding.specs.Slots.{cSlot};
+ghost use Rattle.c_encoding.specs.Messages.{cServed, servedStep};
 
 #[no_mangle]
 pub extern "C" fn cerberus_header(message: &[u8]) -> u8
-    ensures { λ r. ⌜ r ≡ headerNumber (now (message .entry)) ⌝ }
+    ensures { λ r. ⌜ r ≡ commandOf (now (message .entry)) .number ⌝ }
 {
-    header_verdict(message).number()
+    let heading = command_of(message);
+    match heading {
+        Heading::Refused(why) => why.number(),
+        Heading::Named(_) => 0,
+    }
 }
 
 #[no_mangle]
@@ -28,23 +34,19 @@ pub extern "C" fn cerberus_command(
     response: &mut [u8],
     written: &mut usize,
 ) -> u8
-    ensures number { λ r. ⌜ r ≡ commandEffect (slotOf (now (slot .entry))) (eqb «signature_good» 1) (now (pending .entry)) (now (active .entry)) (now (response .entry)) (now (message .entry)) .number ⌝ }
-    ensures slot { λ _. ⌜ now (slot .exit) ≡ (accepted commandEffect (slotOf (now (slot .entry))) (eqb «signature_good» 1) (now (pending .entry)) (now (active .entry)) (now (response .entry)) (now (message .entry)) .number then numbersOf (commandEffect (slotOf (now (slot .entry))) (eqb «signature_good» 1) (now (pending .entry)) (now (active .entry)) (now (response .entry)) (now (message .entry)) .slot) else now (slot .entry)) ⌝ }
-    ensures pending { λ _. ⌜ now (pending .exit) ≡ commandEffect (slotOf (now (slot .entry))) (eqb «signature_good» 1) (now (pending .entry)) (now (active .entry)) (now (response .entry)) (now (message .entry)) .pending ⌝ }
-    ensures active { λ _. ⌜ now (active .exit) ≡ commandEffect (slotOf (now (slot .entry))) (eqb «signature_good» 1) (now (pending .entry)) (now (active .entry)) (now (response .entry)) (now (message .entry)) .active ⌝ }
-    ensures response { λ _. ⌜ now (response .exit) ≡ commandEffect (slotOf (now (slot .entry))) (eqb «signature_good» 1) (now (pending .entry)) (now (active .entry)) (now (response .entry)) (now (message .entry)) .response ⌝ }
-    ensures written { λ _. ⌜ now (written .exit) ≡ (accepted commandEffect (slotOf (now (slot .entry))) (eqb «signature_good» 1) (now (pending .entry)) (now (active .entry)) (now (response .entry)) (now (message .entry)) .number then commandEffect (slotOf (now (slot .entry))) (eqb «signature_good» 1) (now (pending .entry)) (now (active .entry)) (now (response .entry)) (now (message .entry)) .written else now (written .entry)) ⌝ }
+    ensures { λ r. ⌜ outcome r (cServed (cSlot (now (slot .exit)) (now (pending .exit)) (now (active .exit))) (now (response .exit)) (now (written .exit)))
+        ≡ servedStep (commandStep (eqb «signature_good» 1) (now (message .entry))) (cServed (cSlot (now (slot .entry)) (now (pending .entry)) (now (active .entry))) (now (response .entry)) (now (written .entry))) ⌝ }
 {
     let numbers = *slot;
     let good = signature_good == 1;
-    let outcome = command(slot_of(numbers), good, message, pending, active, response);
-    let verdict = outcome.verdict;
+    let answer = command(slot_of(numbers), good, message, pending, active, response);
+    let verdict = answer.verdict;
     match verdict {
         Verdict::Refused(why) => why.number(),
         Verdict::Accepted => {
-            let next = outcome.slot;
+            let next = answer.slot;
             *slot = numbers_of(next);
-            *written = outcome.written;
+            *written = answer.written;
             0
         }
     }

@@ -1,21 +1,22 @@
 // The manifest slot: its state is six integers behind a pointer.
-use crate::slot_numbers::numbers_of;
-use crate::slot_numbers::slot_of;
-use manifest::Answer;
-use manifest::Opening;
-use manifest::Role;
-use manifest::Slot;
+use c_encoding::slot_numbers::numbers_of;
+use c_encoding::slot_numbers::slot_of;
+use manifest_slot::Answer;
+use manifest_slot::Opening;
+use manifest_slot::Role;
+use manifest_slot::Slot;
 use refusal::Refusal;
 use refusal::Verdict;
 use refusal::first;
 ghost use mathlib.Core.Path.{_≡_};
 ghost use lib.Dec.{eqb, ltb};
-ghost use Rattle.refusal.specs.Number.{numberOf};
-ghost use Rattle.refusal.specs.Rules.{_when_else_, accepted_then_else_};
-ghost use Rattle.manifest.specs.Slot.{fresh};
-ghost use Rattle.manifest.specs.Calls.{openNumber, openBuffer, prepareNumber, prepareSlot, updateNumber, updateSlot, updatePending, activateNumber, activateSlot, activateActive};
-ghost use Rattle.cerberus.specs.States.{slotOf, numbersOf};
-ghost use Rattle.cerberus.specs.Calls.{manifestNumber, roleOf, manifestLength};
+ghost use Rattle.refusal.specs.Refusals.{numberOf};
+ghost use Rattle.refusal.specs.Rules.{_when_else_};
+ghost use Rattle.refusal.specs.Steps.{outcome, decided};
+ghost use Rattle.manifest_slot.specs.Calls.{openStep, prepareStep, updateStep, activateStep};
+ghost use Rattle.c_encoding.specs.Answers.{lengthShown};
+ghost use Rattle.c_encoding.specs.Slots.{numbersOf, cSlot, heldIn, slotStep};
+ghost use Rattle.cerberus.specs.Calls.{roleOf, manifestStep};
 
 #[no_mangle]
 pub extern "C" fn cerberus_slot_open(
@@ -24,10 +25,7 @@ pub extern "C" fn cerberus_slot_open(
     pending: &mut [u8],
     active: &mut [u8],
 ) -> u8
-    ensures number { λ r. ⌜ r ≡ openNumber (now (pending .entry)) (now (active .entry)) ⌝ }
-    ensures slot { λ _. ⌜ now (slot .exit) ≡ (accepted openNumber (now (pending .entry)) (now (active .entry)) then numbersOf (fresh magic) else now (slot .entry)) ⌝ }
-    ensures pending { λ _. ⌜ now (pending .exit) ≡ openBuffer (now (pending .entry)) (now (active .entry)) (now (pending .entry)) ⌝ }
-    ensures active { λ _. ⌜ now (active .exit) ≡ openBuffer (now (pending .entry)) (now (active .entry)) (now (active .entry)) ⌝ }
+    ensures { λ r. ⌜ outcome r (cSlot (now (slot .exit)) (now (pending .exit)) (now (active .exit))) ≡ slotStep (openStep magic) (cSlot (now (slot .entry)) (now (pending .entry)) (now (active .entry))) ⌝ }
 {
     let opening = Slot::open(magic, pending, active);
     match opening {
@@ -41,8 +39,7 @@ pub extern "C" fn cerberus_slot_open(
 
 // Keeps the next slot of an accepted call, and answers the call's number.
 fn store(slot: &mut [u64; 6], answer: Answer) -> u8
-    ensures number { λ r. ⌜ r ≡ numberOf (answer .verdict) ⌝ }
-    ensures slot { λ _. ⌜ now (slot .exit) ≡ (accepted numberOf (answer .verdict) then numbersOf (answer .slot) else now (slot .entry)) ⌝ }
+    ensures { λ r. ⌜ outcome r (now (slot .exit)) ≡ decided (numberOf (answer .verdict)) (now (slot .entry)) (numbersOf (answer .slot)) ⌝ }
 {
     let verdict = answer.verdict;
     match verdict {
@@ -62,11 +59,10 @@ pub extern "C" fn cerberus_slot_prepare(
     pending: &[u8],
     active: &[u8],
 ) -> u8
-    ensures number { λ r. ⌜ r ≡ prepareNumber (slotOf (now (slot .entry))) total (now (pending .entry)) (now (active .entry)) ⌝ }
-    ensures slot { λ _. ⌜ now (slot .exit) ≡ (accepted prepareNumber (slotOf (now (slot .entry))) total (now (pending .entry)) (now (active .entry)) then numbersOf (prepareSlot (slotOf (now (slot .entry))) total (now (pending .entry)) (now (active .entry))) else now (slot .entry)) ⌝ }
+    ensures { λ r. ⌜ outcome r (cSlot (now (slot .exit)) (now (pending .entry)) (now (active .entry))) ≡ slotStep (prepareStep total) (cSlot (now (slot .entry)) (now (pending .entry)) (now (active .entry))) ⌝ }
 {
     let numbers = *slot;
-    let answer = slot_of(numbers).prepare(total, pending, active);
+    let answer = slot_of(numbers).prepare(total as u64, pending, active);
     store(slot, answer)
 }
 
@@ -77,9 +73,8 @@ pub extern "C" fn cerberus_slot_update(
     pending: &mut [u8],
     active: &[u8],
 ) -> u8
-    ensures number { λ r. ⌜ r ≡ updateNumber (slotOf (now (slot .entry))) (now (payload .entry)) (now (pending .entry)) (now (active .entry)) ⌝ }
-    ensures slot { λ _. ⌜ now (slot .exit) ≡ (accepted updateNumber (slotOf (now (slot .entry))) (now (payload .entry)) (now (pending .entry)) (now (active .entry)) then numbersOf (updateSlot (slotOf (now (slot .entry))) (now (payload .entry)) (now (pending .entry)) (now (active .entry))) else now (slot .entry)) ⌝ }
-    ensures pending { λ _. ⌜ now (pending .exit) ≡ updatePending (slotOf (now (slot .entry))) (now (payload .entry)) (now (pending .entry)) (now (active .entry)) ⌝ }
+    ensures { λ r. ⌜ outcome r (cSlot (now (slot .exit)) (now (pending .exit)) (now (active .entry)))
+        ≡ slotStep (updateStep (now (payload .entry))) (cSlot (now (slot .entry)) (now (pending .entry)) (now (active .entry))) ⌝ }
 {
     let numbers = *slot;
     let answer = slot_of(numbers).update(payload, pending, active);
@@ -93,9 +88,8 @@ pub extern "C" fn cerberus_slot_activate(
     pending: &[u8],
     active: &mut [u8],
 ) -> u8
-    ensures number { λ r. ⌜ r ≡ activateNumber (slotOf (now (slot .entry))) (eqb «signature_good» 1) (now (pending .entry)) (now (active .entry)) ⌝ }
-    ensures slot { λ _. ⌜ now (slot .exit) ≡ (accepted activateNumber (slotOf (now (slot .entry))) (eqb «signature_good» 1) (now (pending .entry)) (now (active .entry)) then numbersOf (activateSlot (slotOf (now (slot .entry))) (eqb «signature_good» 1) (now (pending .entry)) (now (active .entry))) else now (slot .entry)) ⌝ }
-    ensures active { λ _. ⌜ now (active .exit) ≡ activateActive (slotOf (now (slot .entry))) (eqb «signature_good» 1) (now (pending .entry)) (now (active .entry)) ⌝ }
+    ensures { λ r. ⌜ outcome r (cSlot (now (slot .exit)) (now (pending .entry)) (now (active .exit)))
+        ≡ slotStep (activateStep (eqb «signature_good» 1)) (cSlot (now (slot .entry)) (now (pending .entry)) (now (active .entry))) ⌝ }
 {
     let numbers = *slot;
     let answer = slot_of(numbers).activate(signature_good == 1, pending, active);
@@ -128,8 +122,7 @@ pub extern "C" fn cerberus_slot_manifest<'a>(
     active: &'a [u8],
     length: &mut usize,
 ) -> u8
-    ensures number { λ r. ⌜ r ≡ manifestNumber (slotOf (now (slot .entry))) role (now (pending .entry)) (now (active .entry)) ⌝ }
-    ensures length { λ _. ⌜ now (length .exit) ≡ (accepted manifestNumber (slotOf (now (slot .entry))) role (now (pending .entry)) (now (active .entry)) then manifestLength (slotOf (now (slot .entry))) role (now (pending .entry)) (now (active .entry)) else now (length .entry)) ⌝ }
+    ensures { λ r. ⌜ outcome r (now (length .exit)) ≡ lengthShown (manifestStep role (heldIn (cSlot (now (slot .entry)) (now (pending .entry)) (now (active .entry))))) (now (length .entry)) ⌝ }
 {
     let numbers = *slot;
     let held = slot_of(numbers);

@@ -1,7 +1,7 @@
 // What the comparison found, for programs to read: a line for each PMR.
-use attestation_log::Pmr;
 use log_comparison::Agreement;
 use log_comparison::PmrComparison;
+use log_entry::Pmr;
 use report::Report;
 
 fn write_agreement(report: Report, digests: Agreement) -> Report {

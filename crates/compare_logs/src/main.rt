@@ -3,7 +3,6 @@
 mod lines;
 mod words;
 
-use attestation_log::Log;
 use libc::STDERR_FILENO;
 use lines::write_lines;
 use log_comparison::Judged;
@@ -12,7 +11,7 @@ use whole_io::Reading;
 use words::write_words;
 
 // The longest text and one byte more, so that a longer file is seen to be longer.
-const READ_LEN: usize = Log::BUFFER_LEN + 1;
+const READ_LEN: usize = log_text::BUFFER_LEN + 1;
 
 // What the comparison of the texts in the files that arguments 1 and 2 name says.
 fn compare(report: Report, left: &[u8], right: &[u8]) -> Report {

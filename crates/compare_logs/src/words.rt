@@ -1,8 +1,8 @@
 // What the comparison found, in words: a line for each PMR, and one for the whole.
-use attestation_log::MeasurementIndex;
-use attestation_log::Pmr;
 use log_comparison::Agreement;
 use log_comparison::PmrComparison;
+use log_entry::MeasurementIndex;
+use log_entry::Pmr;
 use report::Report;
 
 fn write_agrees(report: Report, records: u8) -> Report {

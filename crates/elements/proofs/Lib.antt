@@ -1,9 +1,4 @@
-pub mod Verdicts
-pub mod Filled
-pub mod Items
-pub mod Heads
-pub mod Regions
-pub mod RwRegions
+pub mod Flags
 pub mod Images
 pub mod Roots
 pub mod ByNumber

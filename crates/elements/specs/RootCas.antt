@@ -2,14 +2,15 @@
 use Prim.Native.Nat.{ℕ, _+_, _*_}
 use mathlib.Core.Bool.{Bool, not}
 use mathlib.Core.List.{List, [], _∷_, _++_}
-use lib.ListN.{length, getD, drop}
-use lib.Dec.{leb, eqb}
-use Rattle.refusal.specs.Rules.{_when_else_, first_then_, Reply, any}
+use lib.ListN.{length, getD, take, drop}
+use lib.Dec.{eqb}
+use Rattle.laws.specs.Tests.{any}
+use Rattle.refusal.specs.Steps.{Outcome, Reply}
 use Rattle.hash.specs.Types.{hashLength, badHashType}
 use Rattle.elements.specs.declared.root_cas.RootCas.{RootCas}
 use Rattle.elements.specs.declared.root_cas.RootCasRead.{RootCasRead}
 use Rattle.elements.specs.declared.root_cas.RootCasRead.the-variants.{Read, Malformed}
-use Rattle.elements.specs.Parts.{readNumber, writeNumber, writtenBy, shownPart, item, itemCount, badItems}
+use Rattle.element_parts.specs.Parts.{readNumber, writeStep, shownPart, itemNumber, itemCount, badItems}
 
 -- the bytes before the hashes
 abbrev pub rootsHeadLength : ℕ
@@ -43,16 +44,13 @@ rootsFields b = record { count = rootCountOf b }
 abbrev pub rootsHashes : ℕ → List ℕ → List ℕ
 rootsHashes hashType b = shownPart (rootsNumber hashType b) (drop rootsHeadLength b)
 
--- hash i, from 0: empty where the element is malformed or has no such hash
-abbrev pub rootsHash : ℕ → List ℕ → ℕ → List ℕ
-rootsHash hashType b i = item (hashLength hashType) (rootsHashes hashType b) i
-
--- "a companion call on the same inputs gives the number"
+-- hash i, from 0: "A call whose answer is a part of a lent buffer gives an empty part where it refuses, and a companion call on the same inputs gives
+-- the number"
 unfoldable pub rootsHashNumber : ℕ → List ℕ → ℕ → ℕ
-rootsHashNumber hashType b i =
-    first rootsNumber hashType b then
-    12 when leb (rootCountOf b) i else
-    0
+rootsHashNumber hashType b i = itemNumber (rootsNumber hashType b) (rootCountOf b) i
+
+abbrev pub rootsHash : ℕ → List ℕ → ℕ → List ℕ
+rootsHash hashType b i = shownPart (rootsHashNumber hashType b i) (take (hashLength hashType) (drop (rootsHeadLength + hashLength hashType * i) b))
 
 -- ---- the writer
 
@@ -68,9 +66,5 @@ rootsFieldsMalformed hashType hashes = any (rootsFieldFaults hashType hashes)
 abbrev pub rootsBytes : ℕ → List ℕ → List ℕ
 rootsBytes hashType hashes = (itemCount (hashLength hashType) hashes ∷ 0 ∷ 0 ∷ 0 ∷ []) ++ hashes
 
-abbrev pub rootsWriteNumber : ℕ → List ℕ → List ℕ → ℕ
-rootsWriteNumber hashType hashes buffer =
-    writeNumber (rootsFieldsMalformed hashType hashes) (rootsHeadLength + length hashes) (length buffer)
-
-abbrev pub rootsWritten : ℕ → List ℕ → List ℕ → List ℕ
-rootsWritten hashType hashes buffer = writtenBy (rootsWriteNumber hashType hashes buffer) (rootsBytes hashType hashes) buffer
+abbrev pub rootsWriteStep : ℕ → List ℕ → List ℕ → Outcome (List ℕ)
+rootsWriteStep hashType hashes buffer = writeStep (rootsFieldsMalformed hashType hashes) (rootsBytes hashType hashes) buffer

@@ -1,15 +1,13 @@
 // The root CAs of a CFM (002, RootCAs): hashes of the root certificates that are trusted. The type of the hashes is the manifest's, and the caller gives it.
-use crate::parts;
 use hash::hash_length;
 use refusal::Refusal;
 use refusal::Verdict;
 ghost use mathlib.Core.Path.{_≡_};
-ghost use Prim.Native.Nat.{_+_};
-ghost use lib.ListN.{length};
-ghost use Rattle.refusal.specs.Number.{numberOf};
-ghost use Rattle.refusal.specs.Rules.{reply};
-ghost use Rattle.elements.specs.Parts.{readNumber, writeNumber};
-ghost use Rattle.elements.specs.RootCas.{rootsHeadLength, rootsReply, rootsNumber, rootsFields, rootsHashes, rootsHash, rootsHashNumber, rootsFieldsMalformed, rootsWriteNumber, rootsWritten};
+ghost use Rattle.refusal.specs.Refusals.{numberOf};
+ghost use Rattle.refusal.specs.Steps.{outcome, reply};
+ghost use Rattle.hash.specs.Types.{hashLength};
+ghost use Rattle.element_parts.specs.Parts.{readNumber, item};
+ghost use Rattle.elements.specs.RootCas.{rootsReply, rootsNumber, rootsFields, rootsHashes, rootsHash, rootsHashNumber, rootsFieldsMalformed, rootsWriteStep};
 
 // How many hashes there are; the hashes are a part of the element.
 pub struct RootCas {
@@ -43,15 +41,21 @@ impl RootCas {
         if RootCas::malformed(hash_type, element) {
             return &element[..0];
         }
-        parts::bytes_from(element, RootCas::HEAD_LEN)
+        octets::behind(element, RootCas::HEAD_LEN)
     }
 
-    // Hash i, from 0; empty where the element is malformed, or has no such hash.
+    // Hash i, from 0; empty where the element is malformed, or has no such hash. A walk over all of them asks for the hashes once, and then `nth_hash`.
     pub fn hash(hash_type: u8, element: &[u8], i: usize) -> &[u8]
         ensures { λ r. ⌜ now r ≡ rootsHash «hash_type» (now (element .entry)) i ⌝ }
     {
-        let hashes = RootCas::hashes(hash_type, element);
-        parts::item(hashes, hash_length(hash_type), i)
+        RootCas::nth_hash(hash_type, RootCas::hashes(hash_type, element), i)
+    }
+
+    // Hash i, from 0, of the hashes that an element shows; empty past the last.
+    pub fn nth_hash(hash_type: u8, hashes: &[u8], i: usize) -> &[u8]
+        ensures { λ r. ⌜ now r ≡ item (hashLength «hash_type») (now (hashes .entry)) i ⌝ }
+    {
+        element_parts::item(hashes, hash_length(hash_type), i)
     }
 
     // The companion of `hash` on the same inputs: 12 where that part is empty.
@@ -66,14 +70,16 @@ impl RootCas {
     }
 
     pub fn write(hash_type: u8, hashes: &[u8], buffer: &mut [u8]) -> Verdict
-        ensures verdict { λ r. ⌜ numberOf r ≡ rootsWriteNumber «hash_type» (now (hashes .entry)) (now (buffer .entry)) ⌝ }
-        ensures buffer { λ _. ⌜ now (buffer .exit) ≡ rootsWritten «hash_type» (now (hashes .entry)) (now (buffer .entry)) ⌝ }
+        ensures { λ r. ⌜ outcome (numberOf r) (now (buffer .exit)) ≡ rootsWriteStep «hash_type» (now (hashes .entry)) (now (buffer .entry)) ⌝ }
     {
-        let verdict = RootCas::write_verdict(hash_type, hashes, buffer.len());
+        let width = hash_length(hash_type);
+        let malformed = RootCas::fields_malformed(hash_type, hashes);
+        let len = RootCas::HEAD_LEN + hashes.len();
+        let verdict = element_parts::write_verdict(malformed, len, buffer.len());
         let Verdict::Accepted = verdict else {
             return verdict;
         };
-        let count = parts::item_count(hashes, hash_length(hash_type)) as u8;
+        let count = element_parts::item_count(hashes, width) as u8;
         let head = [count, 0, 0, 0];
         octets::put(buffer, 0, &head);
         octets::put(buffer, RootCas::HEAD_LEN, hashes);
@@ -97,13 +103,6 @@ impl RootCas {
     fn fields_malformed(hash_type: u8, hashes: &[u8]) -> bool
         ensures { λ r. ⌜ r ≡ rootsFieldsMalformed «hash_type» (now (hashes .entry)) ⌝ }
     {
-        (2 < hash_type) | parts::bad_items(hashes, hash_length(hash_type))
-    }
-
-    fn write_verdict(hash_type: u8, hashes: &[u8], buffer_len: usize) -> Verdict
-        ensures { λ r. ⌜ numberOf r ≡ writeNumber (rootsFieldsMalformed «hash_type» (now (hashes .entry))) (rootsHeadLength + length (now (hashes .entry))) «buffer_len» ⌝ }
-    {
-        let malformed = RootCas::fields_malformed(hash_type, hashes);
-        parts::write_verdict(malformed, RootCas::HEAD_LEN + hashes.len(), buffer_len)
+        (2 < hash_type) | element_parts::bad_items(hashes, hash_length(hash_type))
     }
 }

@@ -15,7 +15,7 @@ use Rattle.fips180.specs.Padding.{bigEndian, block}
 use Rattle.fips180.specs.Hash.{compress, hashValue}
 use Rattle.fips180.specs.Continued.{padAfter, hashAfter}
 use Rattle.fips180.specs.LastBlocks.{tailBlock, withLength}
-use Rattle.fips180.proofs.Lists.{before-or-not}
+use Rattle.laws.proofs.Lists.{before-or-not}
 use Rattle.fips180.proofs.Bytes.{length-big}
 use Rattle.fips180.proofs.Padding.{length-pad, pad-message, pad-one, pad-zero, pad-length, pad-block}
 use Rattle.fips180.proofs.Blocks.{block-positive, zeroCount-fills, length-block, hashValue-more}

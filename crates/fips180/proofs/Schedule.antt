@@ -9,7 +9,7 @@ use lib.Seq.{getD-at}
 use Rattle.fips180.specs.Family.{Family, smallSigma0, smallSigma1}
 use Rattle.fips180.specs.Padding.{fromBig, wordAt, wordsOf}
 use Rattle.fips180.specs.Hash.{plus, nextWord, withNext, schedule}
-use Rattle.fips180.proofs.Lists.{run, take-run, store-next}
+use Rattle.laws.proofs.Lists.{run, take-run, store-next}
 
 module _ (f : Family) where
   -- word j of a block, where v is its first byte and vs are the k others, as code reads them

@@ -8,7 +8,7 @@ use lib.Dec.{leb}
 use lib.ListN.{length}
 use borrow.Author.Tests.{ne-eqb, lt-leb}
 use Rattle.refusal.proofs.Laws.{when-no, accepted-yes, accepted-no}
-use Rattle.refusal.proofs.Tests.{and-left}
+use Rattle.laws.proofs.Tests.{and-left}
 use Rattle.octets.proofs.Buffers.{same-eq, same-refl}
 use Rattle.hash.specs.Types.{hashLength, hashOf}
 use Rattle.hash.specs.Calls.{tooLong, hashNumber, hashStep, hashMatches}

@@ -7,14 +7,12 @@ use native.Mathlib.Omega.{arith}
 use lib.Dec.{eqb}
 use lib.ListN.{length}
 use borrow.Author.Tests.{lt-ltb, le-ltb, ltb-false, ne-eqb, eq-eqb, leb-false}
-use Rattle.refusal.specs.declared.Verdict.{Verdict}
-use Rattle.refusal.specs.Number.{numberOf}
 use Rattle.refusal.specs.Rules.{_when_else_}
 use Rattle.refusal.proofs.Laws.{when-yes, when-no, when-accepted, accepted-yes, accepted-no}
-use Rattle.refusal.proofs.Tests.{and-right, equal-no, no-equal}
+use Rattle.laws.proofs.Tests.{and-right, equal-no, no-equal}
 use Rattle.octets.specs.Octets.{sameBytes}
 use Rattle.hash.specs.Types.{hashLength, hashOf, badHashType}
-use Rattle.hash.specs.Calls.{tooLong, hashNumber, Outcome, outcome, answered, hashStep, hashMatches}
+use Rattle.hash.specs.Calls.{tooLong, hashNumber, hashMatches}
 use Rattle.hash.proofs.Types.{length-bound}
 
 module _ (t n k : ℕ) where
@@ -59,14 +57,6 @@ module _ (t : ℕ) (m b : List ℕ) where
   abbrev number : ℕ
   number = hashNumber t (length m) (length b)
 
-  pub step-refused : (r : Verdict) → numberOf r ≡ number → 0 < number → answered r b ≡ hashStep t m b
-  unfolding hashStep
-  step-refused r e h = λ i. record { number = e i; buffer = sym (accepted-no (hashOf t m) b h) i }
-
-  pub step-accepted : (r : Verdict) {out : List ℕ} → numberOf r ≡ number → number ≡ 0 → out ≡ hashOf t m → answered r out ≡ hashStep t m b
-  unfolding hashStep
-  step-accepted r e h p = λ i. record { number = e i; buffer = (p ∙ sym (accepted-yes (hashOf t m) b h)) i }
-
   pub matches-refused : 0 < number → false ≡ hashMatches t m b
   unfolding hashMatches
   matches-refused h = sym (accepted-no (sameBytes (hashOf t m) b) false h)
@@ -74,7 +64,3 @@ module _ (t : ℕ) (m b : List ℕ) where
   pub matches-accepted : number ≡ 0 → sameBytes (hashOf t m) b ≡ hashMatches t m b
   unfolding hashMatches
   matches-accepted h = sym (accepted-yes (sameBytes (hashOf t m) b) false h)
-
--- the number of an answer, told as a number
-pub number-told : {n k : ℕ} (b : List ℕ) {o : Outcome} → n ≡ k → outcome k b ≡ o → outcome n b ≡ o
-number-told b e p = ap (λ (x : ℕ). outcome x b) e ∙ p

@@ -4,9 +4,8 @@ use mathlib.Core.Bool.{Bool, false, not, _&&_}
 use mathlib.Core.List.{List}
 use lib.ListN.{length}
 use lib.Dec.{leb, eqb}
-use Rattle.refusal.specs.declared.Verdict.{Verdict}
-use Rattle.refusal.specs.Number.{numberOf}
 use Rattle.refusal.specs.Rules.{_when_else_, accepted_then_else_}
+use Rattle.refusal.specs.Steps.{Outcome, decided}
 use Rattle.octets.specs.Octets.{sameBytes}
 use Rattle.hash.specs.Types.{hashLength, hashOf, badHashType}
 
@@ -23,22 +22,8 @@ hashNumber hashType n k =
     2 when tooLong hashType n else
     0
 
--- What the hash call answers and leaves: its number, and the lent buffer afterwards.
-pub record Outcome : Type 0 where
-  pub number : ℕ
-  pub buffer : List ℕ
-
-abbrev pub outcome : ℕ → List ℕ → Outcome
-outcome number buffer = record { number = number; buffer = buffer }
-
-abbrev pub answered : Verdict → List ℕ → Outcome
-answered r buffer = outcome (numberOf r) buffer
-
--- the number decides: what an accepted call leaves, or a refusal, for which "every buffer keeps its bytes"
-abbrev pub decided : ℕ → List ℕ → List ℕ → Outcome
-decided number before done = outcome number (accepted number then done else before)
-
-unfoldable pub hashStep : ℕ → List ℕ → List ℕ → Outcome
+-- what the hash call answers, and leaves of the lent buffer: the hash where it accepts; a refusal, for which "every buffer keeps its bytes"
+unfoldable pub hashStep : ℕ → List ℕ → List ℕ → Outcome (List ℕ)
 hashStep hashType m buffer = decided (hashNumber hashType (length m) (length buffer)) buffer (hashOf hashType m)
 
 -- whether the message has this hash: never where the hash call would refuse a buffer of that length

@@ -25,8 +25,8 @@ pub record HashesMean : Type 0 where
   pub accepts : (hashType : ℕ) (m b : List ℕ) → hashStep hashType m b .number ≡ 0 → HasHash hashType m × (length b ≡ hashLength hashType)
   pub accepted : (hashType : ℕ) (m b : List ℕ) → HasHash hashType m → length b ≡ hashLength hashType → hashStep hashType m b .number ≡ 0
   -- the buffer then has the hash, and else what it had
-  pub made : (hashType : ℕ) (m b : List ℕ) → hashStep hashType m b .number ≡ 0 → hashStep hashType m b .buffer ≡ hashOf hashType m
-  pub kept : (hashType : ℕ) (m b : List ℕ) → 0 < hashStep hashType m b .number → hashStep hashType m b .buffer ≡ b
+  pub made : (hashType : ℕ) (m b : List ℕ) → hashStep hashType m b .number ≡ 0 → hashStep hashType m b .after ≡ hashOf hashType m
+  pub kept : (hashType : ℕ) (m b : List ℕ) → 0 < hashStep hashType m b .number → hashStep hashType m b .after ≡ b
   -- yes is answered for the hash and for nothing else
   pub yes : (hashType : ℕ) (m h : List ℕ) → hashMatches hashType m h ≡ true → HasHash hashType m × (h ≡ hashOf hashType m)
   pub only : (hashType : ℕ) (m : List ℕ) → HasHash hashType m → hashMatches hashType m (hashOf hashType m) ≡ true

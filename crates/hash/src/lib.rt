@@ -8,10 +8,11 @@ use sha512::sha512;
 ghost use mathlib.Core.Path.{_≡_};
 ghost use Prim.Native.Nat.{_≤_};
 ghost use lib.ListN.{length};
-ghost use Rattle.refusal.specs.Number.{numberOf};
+ghost use Rattle.refusal.specs.Refusals.{numberOf};
+ghost use Rattle.refusal.specs.Steps.{outcome};
 ghost use Rattle.octets.specs.Octets.{padded};
 ghost use Rattle.hash.specs.Types.{hashLength, hashOf};
-ghost use Rattle.hash.specs.Calls.{hashNumber, answered, hashStep, hashMatches};
+ghost use Rattle.hash.specs.Calls.{hashNumber, hashStep, hashMatches};
 
 // How many bytes a hash of this type has; 0 for a type that isn't defined.
 pub fn hash_length(hash_type: u8) -> usize
@@ -65,7 +66,7 @@ fn padded_hash(hash_type: u8, message: &[u8]) -> [u8; 64]
 
 // The hash of this type of the message fills `hash`.
 pub fn hash_into(hash_type: u8, message: &[u8], hash: &mut [u8]) -> Verdict
-    ensures { λ r. ⌜ answered r (now (hash .exit)) ≡ hashStep «hash_type» (now (message .entry)) (now (hash .entry)) ⌝ }
+    ensures { λ r. ⌜ outcome (numberOf r) (now (hash .exit)) ≡ hashStep «hash_type» (now (message .entry)) (now (hash .entry)) ⌝ }
 {
     let len = hash.len();
     let verdict = hash_verdict(hash_type, message.len(), len);

@@ -7,7 +7,7 @@ use native.Mathlib.Omega.{arith}
 use lib.Dec.{eqb}
 use lib.ListN.{length, getD, drop, drop-of-length-le}
 use lib.Seq.{drop-cons}
-use Rattle.refusal.proofs.Tests.{is-no}
+use Rattle.laws.proofs.Tests.{is-no}
 use Rattle.octets.specs.Octets.{sameBytes}
 use Rattle.octets.proofs.Buffers.{same-eq}
 use Rattle.hex_text.specs.HexText.{byteText, hexText}

@@ -8,7 +8,7 @@ use sha256::sha256_after_block;
 ghost use mathlib.Core.Path.{_≡_};
 ghost use Prim.Native.Nat.{_<_, _^_};
 ghost use lib.ListN.{length, replicate};
-ghost use Rattle.refusal.specs.Number.{numberOf};
+ghost use Rattle.refusal.specs.Refusals.{numberOf};
 ghost use Rattle.fips180.specs.Sha256.{sha256};
 ghost use Rattle.hmac.specs.Hmac.{K₀, _⊕_};
 ghost use Rattle.hmac.specs.HmacSha256.{hmacNumber, hmacMac};

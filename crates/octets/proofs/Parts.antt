@@ -1,13 +1,13 @@
 -- Parts of buffers: bytes read from an index on, and parts that are put into an array one behind the other.
 use Prim.Native.Nat.{ℕ, _+_, _-_, _≤_}
-use mathlib.Core.Path.{_≡_, sym, ap, _∙_}
+use mathlib.Core.Path.{_≡_, refl, sym, ap, _∙_}
 use mathlib.Core.List.{List, [], _++_, append-nil}
 use native.Mathlib.Nat.{zero-add}
 use native.Mathlib.Omega.{arith}
 use lib.ListN.{length, take, drop, length-append, length-take, length-drop, drop-of-length-le, take-append-drop}
 use lib.Seq.{take-at, take-all, length-take-le, drop-append-seam, drop-drop}
 use Rattle.octets.specs.Octets.{Bytes, zeros, pasted, padded, bytesAt}
-use Rattle.octets.proofs.Buffers.{pasted-fits, length-zeros, length-padded, drop-zeros, bytes-append, bytes-take, bytes-drop, bytes-zeros}
+use Rattle.octets.proofs.Buffers.{pasted-fits, length-pasted, length-zeros, length-padded, drop-zeros, bytes-append, bytes-take, bytes-drop, bytes-zeros}
 
 -- ---- read from an index on
 
@@ -70,6 +70,32 @@ put-next done w x w′ k n f e l p =
 -- the parts fill all of w
 pub filled : (done w : List ℕ) (n : ℕ) → take n w ≡ done → length w ≡ n → w ≡ done
 filled done w n f l = sym (take-all n w (omega arith)) ∙ f
+
+-- two parts or three that fill all of d, each put right behind those before it
+module _ (d x : List ℕ) where
+  -- x is put, with room for n bytes behind it
+  module _ {w : List ℕ} (n : ℕ) (l : length d ≡ length x + n) (e : w ≡ pasted d 0 x) where
+    first-length : length w ≡ length x + n
+    first-length = ap length e ∙ length-pasted d 0 x (omega arith) ∙ l
+
+    first-put : take (length x) w ≡ x
+    first-put = put-next [] d x w 0 (length x) refl (zero-add (length x)) (omega arith) e
+
+  pub put-two : {w w′ : List ℕ} (y : List ℕ) → length d ≡ length x + length y → w ≡ pasted d 0 x → w′ ≡ pasted w (length x) y → w′ ≡ x ++ y
+  put-two {w = w} {w′ = w′} y l e f =
+      let room = first-length (length y) l e in
+      filled (x ++ y) w′ (length x + length y) (put-next x w y w′ (length x) _ (first-put (length y) l e) refl (omega arith) f)
+      (ap length f ∙ length-pasted w (length x) y (omega arith) ∙ room)
+
+  pub put-three : {w w′ w″ : List ℕ} (y z : List ℕ) → length d ≡ length x + length y + length z
+      → w ≡ pasted d 0 x → w′ ≡ pasted w (length x) y → w″ ≡ pasted w′ (length x + length y) z → w″ ≡ x ++ y ++ z
+  put-three {w = w} {w′ = w′} {w″ = w″} y z l e f g =
+      let n : length d ≡ length x + (length y + length z) = omega arith in
+      let room = first-length (length y + length z) n e in
+      let room′ : length w′ ≡ length x + length y + length z = ap length f ∙ length-pasted w (length x) y (omega arith) ∙ omega arith in
+      let two = put-next x w y w′ (length x) (length x + length y) (first-put (length y + length z) n e) refl (omega arith) f in
+      let three = put-next (x ++ y) w′ z w″ (length x + length y) _ two refl (omega arith) g in
+      filled (x ++ y ++ z) w″ _ three (ap length g ∙ length-pasted w′ (length x + length y) z (omega arith) ∙ room′)
 
 -- what stands at the front, replaced
 pub put-front : (front rest new : List ℕ) → length new ≡ length front → pasted (front ++ rest) 0 new ≡ new ++ rest

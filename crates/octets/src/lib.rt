@@ -1,13 +1,33 @@
 // Bytes in lent slices. Each function is total: a byte past the end reads as 0, and a run of bytes that does not fit is not
 // put. Numbers of several bytes are little-endian.
 ghost use mathlib.Core.Path.{_≡_};
-ghost use lib.ListN.{getD};
+ghost use lib.ListN.{getD, take, drop};
 ghost use Rattle.octets.specs.Octets.{numberAt, bytesOf, bytesAt, pasted, zeroedFrom, sameBytes, allZero, replacedBy};
 
 pub fn byte_at(b: &[u8], at: usize) -> u8
     ensures { λ r. ⌜ r ≡ getD (now (b .entry)) at 0 ⌝ }
 {
     if at < b.len() { b[at] } else { 0 }
+}
+
+// The first n bytes: all where the slice has fewer.
+pub fn front(b: &[u8], n: usize) -> &[u8]
+    ensures { λ r. ⌜ now r ≡ take n (now (b .entry)) ⌝ }
+{
+    if n < b.len() {
+        return &b[..n];
+    }
+    b
+}
+
+// The bytes from index at on: none where the slice ends before.
+pub fn behind(b: &[u8], at: usize) -> &[u8]
+    ensures { λ r. ⌜ now r ≡ drop at (now (b .entry)) ⌝ }
+{
+    if at < b.len() {
+        return &b[at..];
+    }
+    &b[..0]
 }
 
 pub fn u16_at(b: &[u8], at: usize) -> u16

@@ -1,5 +1,5 @@
 -- The input data as code puts it together; the pairing key as one iteration; and what `pairing_key` answers for each kind of key and buffer.
-use Prim.Native.Nat.{ℕ, _<_}
+use Prim.Native.Nat.{ℕ}
 use mathlib.Core.Path.{_≡_, refl, sym, ap, _∙_}
 use mathlib.Core.List.{List, [], _∷_}
 use native.Mathlib.Omega.{arith}
@@ -12,9 +12,8 @@ use Rattle.fips180.specs.Family.{blockBytes}
 use Rattle.fips180.specs.Sha256.{family32}
 use Rattle.hmac.specs.HmacSha256.{hmacSha256, hmacNumber}
 use Rattle.hmac.proofs.Parts.{mac-length}
-use Rattle.refusal.proofs.Laws.{accepted-yes, accepted-no}
 use Rattle.pairing.specs.CounterMode.{inputData, iterated, counterMode}
-use Rattle.pairing.specs.Pairing.{label, pairingKey, pairingNumber, pairingBuffer}
+use Rattle.pairing.specs.Pairing.{label, pairingKey, pairingNumber}
 
 pub input-put : (a b c : List ℕ) → a ≡ pasted (replicate 16 0) 0 (0 ∷ 0 ∷ 0 ∷ 1 ∷ []) → b ≡ pasted a 4 label
     → c ≡ pasted b 12 (0 ∷ 0 ∷ 1 ∷ 0 ∷ []) → c ≡ inputData label [] 256 1
@@ -36,11 +35,3 @@ module _ (key buffer : List ℕ) where
   pub key-decides : length buffer ≡ 32 → hmacNumber key (inputData label [] 256 1) ≡ pairingNumber key buffer
   unfolding pairingNumber hmacNumber blockBytes family32 inputData label bigEndian
   key-decides e = rw (eq-eqb (length buffer) 32 e) refl
-
-  pub buffer-stays : 0 < pairingNumber key buffer → buffer ≡ pairingBuffer key buffer
-  unfolding pairingBuffer
-  buffer-stays h = sym (accepted-no (pairingKey key) buffer h)
-
-  pub buffer-filled : pairingNumber key buffer ≡ 0 → pairingKey key ≡ pairingBuffer key buffer
-  unfolding pairingBuffer
-  buffer-filled e = sym (accepted-yes (pairingKey key) buffer e)

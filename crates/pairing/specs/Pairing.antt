@@ -5,7 +5,8 @@ use mathlib.Core.Bool.{not}
 use mathlib.Core.List.{List, [], _∷_}
 use lib.Dec.{eqb, leb}
 use lib.ListN.{length}
-use Rattle.refusal.specs.Rules.{_when_else_, accepted_then_else_}
+use Rattle.refusal.specs.Rules.{_when_else_}
+use Rattle.refusal.specs.Steps.{Outcome, decided}
 use Rattle.hmac.specs.HmacSha256.{hmacSha256}
 use Rattle.pairing.specs.CounterMode.{counterMode}
 
@@ -23,6 +24,6 @@ pairingNumber key buffer =
     2 when leb (2 ^ 61) (length key) else
     0
 
--- what the output buffer holds after the call
-unfoldable pub pairingBuffer : List ℕ → List ℕ → List ℕ
-pairingBuffer key buffer = accepted pairingNumber key buffer then pairingKey key else buffer
+-- what the call answers, and the output buffer after it
+unfoldable pub pairingStep : List ℕ → List ℕ → Outcome (List ℕ)
+pairingStep key buffer = decided (pairingNumber key buffer) buffer (pairingKey key)

@@ -6,10 +6,11 @@ use refusal::Refusal;
 use refusal::Verdict;
 ghost use mathlib.Core.Path.{_≡_};
 ghost use mathlib.Core.List.{[]};
-ghost use Rattle.refusal.specs.Number.{numberOf};
+ghost use Rattle.refusal.specs.Refusals.{numberOf};
+ghost use Rattle.refusal.specs.Steps.{outcome};
 ghost use Rattle.hmac.specs.HmacSha256.{hmacNumber, hmacMac};
 ghost use Rattle.pairing.specs.CounterMode.{inputData};
-ghost use Rattle.pairing.specs.Pairing.{label, pairingNumber, pairingBuffer};
+ghost use Rattle.pairing.specs.Pairing.{label, pairingStep};
 
 pub const KEY_LEN: usize = 32;
 
@@ -34,8 +35,7 @@ fn first_iteration(session_key: &[u8]) -> Mac
 
 // Puts the pairing key into `out`.
 pub fn pairing_key(session_key: &[u8], out: &mut [u8]) -> Verdict
-    ensures verdict { λ r. ⌜ numberOf r ≡ pairingNumber (now («session_key» .entry)) (now (out .entry)) ⌝ }
-    ensures key { λ _. ⌜ now (out .exit) ≡ pairingBuffer (now («session_key» .entry)) (now (out .entry)) ⌝ }
+    ensures { λ r. ⌜ outcome (numberOf r) (now (out .exit)) ≡ pairingStep (now («session_key» .entry)) (now (out .entry)) ⌝ }
 {
     if out.len() != KEY_LEN {
         return Verdict::Refused(Refusal::WrongBuffer);

@@ -100,8 +100,8 @@ impl Report {
     pub fn refusal(self, why: Refusal) -> Self
         ensures { λ r. ⌜ StaysFailed (self .ok) (r .ok) ⌝ }
     {
-        let mut words = [0u8; meaning::LONGEST];
-        let n = meaning::put_meaning(why, &mut words);
+        let mut words = [0u8; Refusal::LONGEST_MEANING];
+        let n = why.put_meaning(&mut words);
         let report = self.decimal(why.number() as u64).text(b"\nmeaning: ");
         report.front(&words, n).text(b"\n")
     }

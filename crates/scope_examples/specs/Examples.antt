@@ -4,13 +4,15 @@ use mathlib.Core.Path.{_≡_}
 use mathlib.Core.Bool.{Bool}
 use mathlib.Core.List.{List, [], _∷_}
 use lib.ListN.{length}
-use Rattle.refusal.specs.Rules.{Reply, reply}
-use Rattle.protocol.specs.Header.{headerNumber}
-use Rattle.elements.specs.declared.rw_region.Operation.{Operation}
-use Rattle.elements.specs.declared.rw_region.Operation.the-variants.{Erase, Reserved}
-use Rattle.elements.specs.Region.{regionSize, regionNumber}
-use Rattle.elements.specs.RwRegion.{RwFields, rwFieldsOf, rwRegionNumber, rwRegionFields}
-use Rattle.elements.specs.SignedImage.{imageNumber, imageFields, imageHash, imageRegions, imageWriteNumber, imageWritten}
+use Rattle.laws.specs.Tests.{bitOf}
+use Rattle.laws.specs.Lists.{All}
+use Rattle.refusal.specs.Steps.{Reply, reply}
+use Rattle.message_header.specs.Header.{commandOf}
+use Rattle.regions.specs.declared.rw_region.Operation.{Operation}
+use Rattle.regions.specs.declared.rw_region.Operation.the-variants.{Erase, Reserved}
+use Rattle.regions.specs.Region.{regionSize, endIsLast, regionNumber}
+use Rattle.regions.specs.RwRegion.{RwFields, rwFieldsOf, rwRegionNumber, rwRegionFields}
+use Rattle.elements.specs.SignedImage.{imageNumber, imageFields, imageHash, imageRegions, imageWriteStep}
 
 -- ---- what an example says
 
@@ -27,29 +29,26 @@ pub data Example : Type 0 where
 -- what the writer makes of an image's fields, where their element has n bytes
 pub record ImageOf (n hashType : ℕ) (mustValidate : Bool) (hash region buffer : List ℕ) : Type 0 where
   -- it takes a buffer of n bytes, and no other
-  pub accepted : length buffer ≡ n → imageWriteNumber hashType hash region buffer ≡ 0
-  pub refused : (length buffer ≡ n → ⊥) → imageWriteNumber hashType hash region buffer ≡ 3
+  pub accepted : length buffer ≡ n → imageWriteStep endIsLast hashType (bitOf mustValidate) hash region buffer .number ≡ 0
+  pub refused : (length buffer ≡ n → ⊥) → imageWriteStep endIsLast hashType (bitOf mustValidate) hash region buffer .number ≡ 3
   -- what it writes has n bytes, and reads back as what was given
-  pub bytes : length buffer ≡ n → length (imageWritten hashType mustValidate hash region buffer) ≡ n
+  pub bytes : length buffer ≡ n → length (imageWriteStep endIsLast hashType (bitOf mustValidate) hash region buffer .after) ≡ n
   pub back : length buffer ≡ n
-      → let element = imageWritten hashType mustValidate hash region buffer in
-      (reply (imageNumber element) (imageFields element) ≡ reply 0 (record { «hash_type» = hashType; «region_count» = 1; «must_validate» = mustValidate }))
-      × ((imageHash element ≡ hash) × (imageRegions element ≡ region))
+      → let element = imageWriteStep endIsLast hashType (bitOf mustValidate) hash region buffer .after in
+      (reply (imageNumber endIsLast element) (imageFields element)
+      ≡ reply 0 (record { «hash_type» = hashType; «region_count» = 1; «must_validate» = mustValidate }))
+      × ((imageHash endIsLast element ≡ hash) × (imageRegions endIsLast element ≡ region))
 
--- a to d are the bytes of an address; `regionNumber region ≡ 0` says that region is the eight bytes of a sound region
+-- a to d are the bytes of an address; `regionNumber endIsLast region ≡ 0` says that region is the eight bytes of a sound region
 abbrev pub Holds : Example → Type 0
-Holds (header message n) = headerNumber message ≡ n
-Holds (rw-region element r) = reply (rwRegionNumber element) (rwRegionFields element) ≡ r
+Holds (header message n) = commandOf message .number ≡ n
+Holds (rw-region element r) = reply (rwRegionNumber endIsLast element) (rwRegionFields element) ≡ r
 Holds (start-is-end first n) = (a b c d : ℕ)
     → let element = first ∷ 0x00 ∷ 0x00 ∷ 0x00 ∷ a ∷ b ∷ c ∷ d ∷ a ∷ b ∷ c ∷ d ∷ [] in
-    (rwRegionNumber element ≡ 0) × (regionSize (rwRegionFields element .region) ≡ n)
+    (rwRegionNumber endIsLast element ≡ 0) × (regionSize (rwRegionFields element .region) ≡ n)
 Holds (one-region-image hashType hashBytes n) = (mustValidate : Bool) (hash region buffer : List ℕ)
-    → length hash ≡ hashBytes → regionNumber region ≡ 0
+    → length hash ≡ hashBytes → regionNumber endIsLast region ≡ 0
     → ImageOf n hashType mustValidate hash region buffer
-
-abbrev pub All : List Example → Type 0
-All [] = Unit {0}
-All (e ∷ es) = Holds e × All es
 
 -- ---- the table
 

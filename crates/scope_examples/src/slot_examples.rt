@@ -1,7 +1,7 @@
 // Totals at the limits, and Get PCD Id after a manifest with id 0x01020304 became active.
 use crate::show;
-use manifest::Opening;
-use manifest::Slot;
+use manifest_slot::Opening;
+use manifest_slot::Slot;
 use report::Report;
 
 // The manifest type of a PCD (002).
@@ -11,7 +11,7 @@ const MAGIC: u16 = 0x1029;
 const MANIFEST: [u8; 13] = *b"\x0d\x00\x29\x10\x04\x03\x02\x01\x01\x00\x00\x00\xaa";
 
 fn prepared(slot: Slot, total: u32, pending: &[u8], active: &[u8]) -> u8 {
-    let answer = slot.prepare(total, pending, active);
+    let answer = slot.prepare(total as u64, pending, active);
     let verdict = answer.verdict;
     verdict.number()
 }
@@ -51,7 +51,7 @@ fn activated(slot: Slot, pending: &mut [u8], active: &mut [u8]) -> Slot {
 
 fn get_pcd_id(report: Report, slot: Slot, pending: &mut [u8], active: &mut [u8]) -> Report {
     let mut response = [0xffu8; 12];
-    let outcome = protocol::command(
+    let outcome = commands::command(
         slot,
         false,
         b"\x7e\x14\x14\x00\x62",

@@ -10,7 +10,7 @@ use refusal::Verdict;
 ghost use mathlib.Core.Path.{_≡_};
 ghost use mathlib.Core.List.{_++_};
 ghost use lib.ListN.{replicate};
-ghost use Rattle.refusal.specs.Number.{numberOf};
+ghost use Rattle.refusal.specs.Refusals.{numberOf};
 ghost use Rattle.sha256.specs.Sha256.{sha256Number, sha256Digest};
 
 // From this length on a message has no digest: its length in bits has no place in the padding.

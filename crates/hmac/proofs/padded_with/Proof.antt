@@ -6,7 +6,7 @@ use lib.Bits.{bitXor}
 use lib.ListN.{length, getD, take, replicate, length-set, length-replicate, getD-replicate}
 use lib.Seq.{take-suc, take-all}
 use borrow.Author.Needs.{needs}
-use Rattle.fips180.proofs.Lists.{store-next}
+use Rattle.laws.proofs.Lists.{store-next}
 use Rattle.hmac.specs.Hmac.{_⊕_}
 use Rattle.hmac.proofs.Parts.{length-xor, getD-xor}
 use Rattle.hmac.proofs.padded_with.Statement.{statement}

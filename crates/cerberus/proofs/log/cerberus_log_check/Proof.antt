@@ -9,4 +9,5 @@ returns : tie.Need-returns
 returns c = c .number .ensures ∙ c .before .check .ensures ∙ λ i. checkStep (c .before .before .log-of .ensures i) (now (c .before .before .before .before .before .args .buffer)) .number
 
 pub cerberus-log-check-spec : {M : Type 1} → statement M
-cerberus-log-check-spec = tie.close (tie.spec (λ c κs. search needs) (λ c κs. search needs) (λ c κs. search needs) returns)
+cerberus-log-check-spec = tie.close
+    (tie.spec (λ c κs. search needs) (λ c κs. search needs) (λ c κs. search needs) returns)

@@ -9,4 +9,5 @@ returns : tie.Need-returns
 returns c = c .number .ensures ∙ c .before .read-out-verdict .ensures ∙ λ i. readOutVerdictStep (c .before .before .log-of .ensures i) (now (c .before .before .before .before .before .args .buffer)) .number
 
 pub cerberus-log-read-out-verdict-spec : {M : Type 1} → statement M
-cerberus-log-read-out-verdict-spec = tie.close (tie.spec (λ c κs. search needs) (λ c κs. search needs) (λ c κs. search needs) returns)
+cerberus-log-read-out-verdict-spec = tie.close
+    (tie.spec (λ c κs. search needs) (λ c κs. search needs) (λ c κs. search needs) returns)

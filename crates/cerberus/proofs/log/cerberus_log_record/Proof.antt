@@ -1,19 +1,23 @@
-use mathlib.Core.Path.{_∙_}
-use borrow.Author.Needs.{needs}
-use denote.Ref.{now}
-use Rattle.attestation_log.specs.History.{Event}
+use mathlib.Core.Path.{ap, _∙_}
+use Rattle.c_encoding.specs.Logs.{logOf, CLog, cLog}
+use Rattle.c_encoding.proofs.Logs.{log-stored}
+use Rattle.log_history.specs.History.{Event}
+use Rattle.attestation_log.specs.State.{State}
 use Rattle.attestation_log.specs.Calls.{recordStep}
-use Rattle.cerberus.proofs.LogStates.{stored}
+use borrow.Author.Needs.{needs}
 use Rattle.cerberus.proofs.log.cerberus_log_record.Statement.{statement}
 use Rattle.cerberus.proofs.log.cerberus_log_record.Tie as tie
 
 returns : tie.Need-returns
+unfolding recordStep
 returns c =
     let a = c .before .before .before .before .before .before .before .before .before .before .args in
-    let event : Event = record { pmr = a .pmr; eventType = a .event-type; digest = now (a .digest) } in
-    let e = c .before .before .before .before .«record» .ensures ∙ λ i. recordStep event (c .before .before .before .before .before .before .log-of .ensures i) (now (a .buffer)) in
-    stored (c .before .before .before .before .«record» .result) _ (now (a .log)) e (c .store .ensures .0) (c .store .ensures .1)
+    let k : CLog = cLog (a .log .now) (a .buffer .now) in
+    let event : Event = record { pmr = a .pmr; eventType = a .event-type; digest = a .digest .now } in
+    let is = c .before .before .before .before .«record» .ensures ∙ ap (λ (s : State). recordStep event s (k .buffer)) (c .before .before .before .before .before .before .log-of .ensures) in
+    log-stored k (logOf (k .bytes)) (c .before .before .before .before .«record» .result) (logOf (k .bytes)) _ _ is (c .store .ensures)
 
 pub cerberus-log-record-spec : {M : Type 1} → statement M
 cerberus-log-record-spec =
-    tie.close (tie.spec (λ c κs. search needs) (λ c κs. search needs) (λ c κs. search needs) (λ c. search needs) returns)
+    tie.close
+    (tie.spec (λ c κs. search needs) (λ c κs. search needs) (λ c κs. search needs) (λ c. search needs) returns)

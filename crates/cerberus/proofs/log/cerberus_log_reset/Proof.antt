@@ -1,9 +1,8 @@
+use Rattle.c_encoding.specs.Logs.{logOf, CLog, cLog}
+use Rattle.c_encoding.proofs.Logs.{log-stored}
+use Rattle.attestation_log.specs.State.{noState}
+use Rattle.attestation_log.specs.Calls.{resetStep}
 use borrow.Author.Needs.{needs}
-use denote.Ref.{now}
-use Rattle.attestation_log.specs.Calls.{resetNumber, resetStep}
-use Rattle.attestation_log.proofs.Steps.{resetDone}
-use Rattle.cerberus.specs.LogStates.{logOf}
-use Rattle.cerberus.proofs.LogStates.{started}
 use Rattle.cerberus.proofs.log.cerberus_log_reset.Statement.{statement}
 use Rattle.cerberus.proofs.log.cerberus_log_reset.Tie as tie
 
@@ -11,7 +10,9 @@ returns : tie.Need-returns
 unfolding resetStep
 returns c =
     let a = c .before .before .before .before .before .before .before .args in
-    started (resetNumber (now (a .buffer))) (logOf (now (a .log))) (now (a .buffer)) resetDone (c .before .before .before .before .reset .result) _ (now (a .log)) (c .before .before .before .before .reset .ensures) (c .store .ensures .0) (c .store .ensures .1)
+    let k : CLog = cLog (a .log .now) (a .buffer .now) in
+    log-stored k noState (c .before .before .before .before .reset .result) (logOf (k .bytes)) _ _ (c .before .before .before .before .reset .ensures) (c .store .ensures)
 
 pub cerberus-log-reset-spec : {M : Type 1} → statement M
-cerberus-log-reset-spec = tie.close (tie.spec (λ c κs. search needs) (λ c κs. search needs) (λ c. search needs) returns)
+cerberus-log-reset-spec = tie.close
+    (tie.spec (λ c κs. search needs) (λ c κs. search needs) (λ c. search needs) returns)

@@ -1,37 +1,37 @@
-use Prim.Native.Nat.{ℕ}
-use mathlib.Core.Path.{ap, _∙_}
+use mathlib.Core.Path.{refl, ap, _∙_}
+use mathlib.Core.Bool.{Bool}
 use lib.Dec.{eqb}
+use Rattle.manifest_slot.specs.declared.Slot.{Slot}
+use Rattle.commands.specs.Requests.{served}
+use Rattle.commands.specs.Commands.{commandStep}
+use Rattle.commands.proofs.Claims.{command-claims}
+use Rattle.c_encoding.specs.Slots.{cSlot}
+use Rattle.c_encoding.specs.Messages.{CServed, cServed, servedIn}
+use Rattle.c_encoding.proofs.SlotSteps.{served-refused, served-accepted}
+use Rattle.cerberus.proofs.Answers.{told}
 use borrow.Author.Needs.{needs}
-use denote.Ref.{now}
-use Rattle.refusal.proofs.Laws.{says-yes, says-no}
-use Rattle.manifest.specs.declared.Slot.{Slot}
-use Rattle.protocol.specs.Command.{Effect, commandEffect}
-use Rattle.cerberus.proofs.Answers.{put, kept, slot-refused, slot-accepted}
 use Rattle.cerberus.proofs.messages.cerberus_command.Statement.{statement}
 use Rattle.cerberus.proofs.messages.cerberus_command.Tie as tie
 
 returns : tie.Need-returns
 returns c =
     let a = c .before .before .before .before .before .before .before .before .before .before .before .before .before .before .before .before .before .before .before .before .args in
-    let e = c .before .before .before .before .before .before .before .before .before .before .command .ensures in
-    let s = c .before .before .before .before .before .before .before .before .before .before .before .before .before .before .slot-of .ensures in
-    let effect : Slot → Effect = λ (t : Slot). commandEffect t (eqb (a .signature-good) 1) (now (a .pending)) (now (a .active)) (now (a .response)) (now (a .message)) in
-    let number : Slot → ℕ = λ (t : Slot). effect t .number in
-    let k = slot-refused (now (a .slot)) number (λ (t : Slot). effect t .slot) s (e .0) (c .before .before .verdict .given .1) (c .number .ensures) in
-    let b = e .1 .1 .1 in
-    (k .0, (k .1, (b .0 ∙ ap (λ (t : Slot). effect t .pending) s, (b .1 .0 ∙ ap (λ (t : Slot). effect t .active) s, (b .1 .1 ∙ ap (λ (t : Slot). effect t .response) s, kept _ _ (says-no (e .0 ∙ ap number s) (c .before .before .verdict .given .1)))))))
+    let k : CServed = cServed (cSlot (a .slot .now) (a .pending .now) (a .active .now)) (a .response .now) (a .written .now) in
+    let good : Bool = eqb (a .signature-good) 1 in
+    let step = commandStep good (a .message .now) in
+    let is = c .before .before .before .before .before .before .before .before .before .before .command .ensures ∙ ap (λ (s : Slot). step (served s (a .pending .now) (a .active .now) (a .response .now) 0)) (c .before .before .before .before .before .before .before .before .before .before .before .before .before .before .slot-of .ensures) in
+    told (served-refused k step (c .before .before .before .before .before .before .before .before .before .before .command .result .verdict) is (command-claims .kept good (a .message .now) (servedIn k) refl) (c .before .before .verdict .given .1)) (c .number .ensures)
 
 returns-2 : tie.Need-returns-2
 returns-2 c =
     let a = c .before .before .before .before .before .before .before .before .before .before .before .before .before .before .before .before .before .before .before .before .args in
-    let e = c .before .before .before .before .before .before .before .before .before .before .command .ensures in
-    let s = c .before .before .before .before .before .before .before .before .before .before .before .before .before .before .slot-of .ensures in
-    let effect : Slot → Effect = λ (t : Slot). commandEffect t (eqb (a .signature-good) 1) (now (a .pending)) (now (a .active)) (now (a .response)) (now (a .message)) in
-    let number : Slot → ℕ = λ (t : Slot). effect t .number in
-    let k = slot-accepted (now (a .slot)) number (λ (t : Slot). effect t .slot) s (e .0) (c .before .before .enum-told .given .1) (e .1 .0) (c .numbers-of .ensures) in
-    let b = e .1 .1 .1 in
-    (k .0, (k .1, (b .0 ∙ ap (λ (t : Slot). effect t .pending) s, (b .1 .0 ∙ ap (λ (t : Slot). effect t .active) s, (b .1 .1 ∙ ap (λ (t : Slot). effect t .response) s, put _ (says-yes (e .0 ∙ ap number s) (c .before .before .enum-told .given .1)) (e .1 .1 .0 ∙ ap (λ (t : Slot). effect t .written) s))))))
+    let k : CServed = cServed (cSlot (a .slot .now) (a .pending .now) (a .active .now)) (a .response .now) (a .written .now) in
+    let good : Bool = eqb (a .signature-good) 1 in
+    let step = commandStep good (a .message .now) in
+    let is = c .before .before .before .before .before .before .before .before .before .before .command .ensures ∙ ap (λ (s : Slot). step (served s (a .pending .now) (a .active .now) (a .response .now) 0)) (c .before .before .before .before .before .before .before .before .before .before .before .before .before .before .slot-of .ensures) in
+    served-accepted k step (c .before .before .before .before .before .before .before .before .before .before .command .result .verdict) is (c .before .before .enum-told .given .1) (c .numbers-of .ensures)
 
 pub cerberus-command-spec : {M : Type 1} → statement M
-cerberus-command-spec = tie.close
+cerberus-command-spec =
+    tie.close
     (tie.spec (λ c κs. search needs) (λ c κs. search needs) (λ c. search needs) (λ c κs. search needs) (λ c. search needs) (λ c κs. search needs) (λ c. search needs) (λ c. search needs) (λ c. search needs) returns (λ c. search needs) (λ c. search needs) (λ c. search needs) returns-2)

@@ -1,19 +1,23 @@
+use mathlib.Core.Path.{ap, _∙_}
+use Rattle.manifest_slot.specs.declared.Slot.{Slot}
+use Rattle.manifest_slot.specs.Slot.{held}
+use Rattle.manifest_slot.specs.Calls.{prepareStep}
+use Rattle.manifest_slot.specs.Sequences.{prepare}
+use Rattle.manifest_slot.proofs.Steps.{step-keeps}
+use Rattle.c_encoding.specs.Slots.{CSlot, cSlot, heldIn}
+use Rattle.c_encoding.proofs.SlotSteps.{slot-stored}
 use borrow.Author.Needs.{needs}
-use denote.Ref.{now}
-use Rattle.manifest.specs.Calls.{prepareNumber, prepareSlot}
-use Rattle.manifest.specs.declared.Slot.{Slot}
-use Rattle.cerberus.proofs.Answers.{slot-stored}
 use Rattle.cerberus.proofs.slots.cerberus_slot_prepare.Statement.{statement}
 use Rattle.cerberus.proofs.slots.cerberus_slot_prepare.Tie as tie
 
 returns : tie.Need-returns
 returns c =
     let a = c .before .before .before .before .before .before .before .args in
-    let answer = c .before .before .prepare .ensures in
-    slot-stored (now (a .slot)) (λ (s : Slot). prepareNumber s (a .total) (now (a .pending)) (now (a .active)))
-    (λ (s : Slot). prepareSlot s (a .total) (now (a .pending)) (now (a .active)))
-    (c .before .before .before .slot-of .ensures) (answer .0) (answer .1) (c .store .ensures .0) (c .store .ensures .1)
+    let k : CSlot = cSlot (a .slot .now) (a .pending .now) (a .active .now) in
+    let is = c .before .before .prepare .ensures ∙ ap (λ (s : Slot). prepareStep (a .total) (held s (k .pending) (k .active))) (c .before .before .before .slot-of .ensures) in
+    slot-stored k (prepareStep (a .total)) (step-keeps (prepare (a .total)) (heldIn k)) is (c .store .ensures)
 
 pub cerberus-slot-prepare-spec : {M : Type 1} → statement M
-cerberus-slot-prepare-spec = tie.close
+cerberus-slot-prepare-spec =
+    tie.close
     (tie.spec (λ c κs. search needs) (λ c κs. search needs) (λ c κs. search needs) returns)

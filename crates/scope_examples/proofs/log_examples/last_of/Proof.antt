@@ -1,7 +1,6 @@
 -- `last_of` is safe and ends. The buffer keeps its length through the loop.
 use Prim.Native.Nat.{_≤_, _-_}
 use mathlib.Core.Path.{_≡_}
-use native.Mathlib.Omega.{arith}
 use borrow.Author.Needs.{needs}
 use lib.ListN.{length}
 use Rattle.scope_examples.proofs.log_examples.last_of.Statement.{statement}

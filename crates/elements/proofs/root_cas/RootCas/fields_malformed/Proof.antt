@@ -4,7 +4,7 @@ use mathlib.Core.Bool.{Bool}
 use borrow.Author.Needs.{needs}
 use mathlib.Core.Bool.{_||_}
 use lib.Dec.{ltb}
-use Rattle.elements.specs.Parts.{badItems}
+use Rattle.element_parts.specs.Parts.{badItems}
 use Rattle.elements.specs.RootCas.{rootsFieldsMalformed}
 use Rattle.elements.proofs.root_cas.RootCas.fields_malformed.Statement.{statement}
 use Rattle.elements.proofs.root_cas.RootCas.fields_malformed.Tie as tie

@@ -2,18 +2,22 @@ use mathlib.Core.Path.{_≡_, sym, ap, _∙_}
 use mathlib.Core.Bool.{_||_}
 use borrow.Author.Needs.{needs}
 use lib.Dec.{leb}
-use Rattle.elements.specs.Parts.{readNumber}
+use Rattle.element_parts.specs.Parts.{readNumber}
 use Rattle.elements.specs.RootCas.{rootsHashNumber}
 use Rattle.elements.proofs.Roots.{hash-judged}
 use Rattle.elements.proofs.root_cas.RootCas.hash_verdict.Statement.{statement}
 use Rattle.elements.proofs.root_cas.RootCas.hash_verdict.Tie as tie
 
+-- what came in, seen from the judgement
+abbrev inputs : tie.After-malformed → tie.Start
+inputs c = c .before .before .before
+
 -- what is tested is what the definition judges
 judged : (c : tie.After-malformed)
-    → let a = c .before .before .before .args in
+    → let a = inputs c .args in
     readNumber (c .malformed .result || leb (c .before .byte-at .result) (a .i)) ≡ rootsHashNumber (a .hash-type) (a .element .now) (a .i)
 judged c =
-    let a = c .before .before .before .args in
+    let a = inputs c .args in
     (λ j. readNumber (c .malformed .result || leb (c .before .byte-at .ensures j) (a .i)))
     ∙ hash-judged (a .hash-type) (a .element .now) (a .i) (c .malformed .result) (c .malformed .ensures)
 

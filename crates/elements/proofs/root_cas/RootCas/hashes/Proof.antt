@@ -1,14 +1,13 @@
 use borrow.Author.Needs.{needs}
-use lib.ListN.{drop}
-use Rattle.elements.proofs.Verdicts.{malformed-part, sound-part}
+use Rattle.element_parts.proofs.Verdicts.{malformed-part, sound-part}
 use Rattle.elements.proofs.root_cas.RootCas.hashes.Statement.{statement}
 use Rattle.elements.proofs.root_cas.RootCas.hashes.Tie as tie
 
 returns : tie.Need-returns
-returns c = malformed-part (drop 4 (c .before .before .before .before .args .element .now)) (c .before .before .malformed .ensures) (c .before .if1 .taken)
+returns c = malformed-part _ (c .before .before .malformed .ensures) (c .before .if1 .taken)
 
 returns-2 : tie.Need-returns-2
-returns-2 c = sound-part (c .before .before .malformed .ensures) (c .before .if1 .left) (c .bytes-from .ensures)
+returns-2 c = sound-part (c .before .before .malformed .ensures) (c .before .if1 .left) (c .behind .ensures)
 
 pub hashes-spec : {M : Type 1} → statement M
 hashes-spec =

@@ -1,11 +1,10 @@
 use borrow.Author.Needs.{needs}
-use Rattle.elements.proofs.Verdicts.{malformed-reply, sound-reply}
-use Rattle.elements.specs.RootCas.{rootsFields}
+use Rattle.element_parts.proofs.Verdicts.{malformed-reply, sound-reply}
 use Rattle.elements.proofs.root_cas.RootCas.read.Statement.{statement}
 use Rattle.elements.proofs.root_cas.RootCas.read.Tie as tie
 
 returns : tie.Need-returns
-returns c = malformed-reply (rootsFields (c .before .before .before .args .element .now)) (c .before .malformed .ensures) (c .if1 .taken)
+returns c = malformed-reply _ (c .before .malformed .ensures) (c .if1 .taken)
 
 returns-2 : tie.Need-returns-2
 returns-2 c = sound-reply (c .before .before .malformed .ensures) (c .before .if1 .left) (λ i. record { count = c .byte-at .ensures i })

@@ -1,20 +1,21 @@
 use Prim.Native.Nat.{ℕ, _%_}
 use mathlib.Core.Path.{ap, _∙_}
 use borrow.Author.Needs.{needs}
-use Rattle.elements.proofs.Verdicts.{malformed-reply, sound-reply}
-use Rattle.elements.specs.SignedImage.{imageFields}
+use Rattle.element_parts.proofs.Verdicts.{malformed-reply, sound-reply}
 use lib.Dec.{eqb}
 use lib.Bits.{and-mask}
 use Rattle.elements.proofs.signed_image.SignedImage.read.Statement.{statement}
 use Rattle.elements.proofs.signed_image.SignedImage.read.Tie as tie
 
 returns : tie.Need-returns
-returns c = malformed-reply (imageFields (c .before .before .before .args .element .now)) (c .before .malformed .ensures) (c .if1 .taken)
+returns c = malformed-reply _ (c .before .malformed .ensures) (c .if1 .taken)
 
 returns-2 : tie.Need-returns-2
 returns-2 c =
-    let validate = and-mask (c .before .before .byte-at .result) 1 ∙ ap (λ (n : ℕ). n % 2) (c .before .before .byte-at .ensures) in
-    sound-reply (c .before .before .before .before .malformed .ensures) (c .before .before .before .if1 .left)
+    let flags = c .before .before in
+    let sound = flags .before in
+    let validate = and-mask (flags .byte-at .result) 1 ∙ ap (λ (n : ℕ). n % 2) (flags .byte-at .ensures) in
+    sound-reply (sound .before .malformed .ensures) (sound .if1 .left)
     (λ i. record { «hash_type» = c .before .hash-type-of .ensures i; «region_count» = c .byte-at2 .ensures i; «must_validate» = eqb (validate i) 1 })
 
 pub read-spec : {M : Type 1} → statement M

@@ -1,21 +1,23 @@
 use Prim.Native.Nat.{_+_}
-use mathlib.Core.Path.{_≡_, ap, _∙_}
+use mathlib.Core.Path.{ap, _∙_}
 use borrow.Author.Needs.{needs}
 use lib.ListN.{drop}
 use Rattle.hash.specs.Types.{hashLength}
-use Rattle.elements.proofs.Verdicts.{malformed-part, sound-part}
-use Rattle.elements.specs.SignedImage.{hashTypeOf, regionsOf}
+use Rattle.element_parts.proofs.Verdicts.{malformed-part, sound-part}
 use Rattle.elements.proofs.signed_image.SignedImage.regions.Statement.{statement}
 use Rattle.elements.proofs.signed_image.SignedImage.regions.Tie as tie
 
 returns : tie.Need-returns
-returns c = malformed-part (regionsOf (c .before .before .before .before .args .element .now)) (c .before .before .malformed .ensures) (c .before .if1 .taken)
+returns c = let judged = c .before .before in malformed-part _ (judged .malformed .ensures) (c .before .if1 .taken)
 
 returns-2 : tie.Need-returns-2
 returns-2 c =
-    let b = c .before .before .before .before .before .before .args .element .now in
-    let w : c .before .hash-length .result ≡ hashLength (hashTypeOf b) = c .before .hash-length .ensures .0 ∙ ap hashLength (c .before .before .hash-type-of .ensures) in
-    sound-part (c .before .before .before .before .malformed .ensures) (c .before .before .before .if1 .left) (c .bytes-from .ensures ∙ (λ i. drop (4 + w i) b))
+    let width = c .before in
+    let type = width .before in
+    let sound = type .before in
+    let judged = sound .before in
+    sound-part (judged .malformed .ensures) (sound .if1 .left)
+    (c .behind .ensures ∙ (λ i. drop (4 + (width .hash-length .ensures .0 ∙ ap hashLength (type .hash-type-of .ensures)) i) (judged .before .before .args .element .now)))
 
 pub regions-spec : {M : Type 1} → statement M
 regions-spec =

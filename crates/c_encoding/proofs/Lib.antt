@@ -1,0 +1,5 @@
+pub mod Slots
+pub mod SlotSteps
+pub mod Logs
+pub mod LogLaws
+pub mod ComparisonBytes

@@ -1,0 +1,14 @@
+use borrow.Author.Tests.{eq-eqb, ne-eqb}
+use borrow.Author.Needs.{needs}
+use Rattle.c_encoding.proofs.slot_numbers.transfer_of.Statement.{statement}
+use Rattle.c_encoding.proofs.slot_numbers.transfer_of.Tie as tie
+
+returns : tie.Need-returns
+returns c = rw (eq-eqb _ 0 (c .if1 .taken))
+
+returns-2 : tie.Need-returns-2
+returns-2 c = rw (ne-eqb _ 0 (c .if1 .left))
+
+pub transfer-of-spec : {M : Type 1} → statement M
+transfer-of-spec = tie.close
+    (tie.spec (λ c. search needs) returns (λ c. search needs) (λ c. search needs) returns-2)

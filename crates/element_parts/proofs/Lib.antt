@@ -1,0 +1,3 @@
+pub mod Verdicts
+pub mod Items
+pub mod Heads

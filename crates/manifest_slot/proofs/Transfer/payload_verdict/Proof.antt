@@ -1,0 +1,23 @@
+use mathlib.Core.Path.{sym, _∙_}
+use Rattle.refusal.proofs.Laws.{when-yes, when-no}
+use Rattle.manifest_slot.specs.Calls.{updateRule}
+use borrow.Author.Needs.{needs}
+use Rattle.manifest_slot.proofs.Transfer.payload_verdict.Statement.{statement}
+use Rattle.manifest_slot.proofs.Transfer.payload_verdict.Tie as tie
+
+returns : tie.Need-returns
+unfolding updateRule
+returns c = sym (when-yes 5 _ (sym (c .before .too-long .ensures) ∙ c .if1 .taken))
+
+returns-2 : tie.Need-returns-2
+unfolding updateRule
+returns-2 c =
+    sym (when-no 5 _ (sym (c .before .before .before .too-long .ensures) ∙ c .before .before .if1 .left) ∙ when-yes 6 _ (sym (c .before .is-idle .ensures) ∙ c .if2 .taken))
+
+returns-3 : tie.Need-returns-3
+unfolding updateRule
+returns-3 c =
+    sym (when-no 5 _ (sym (c .before .before .before .too-long .ensures) ∙ c .before .before .if1 .left) ∙ when-no 6 _ (sym (c .before .is-idle .ensures) ∙ c .if2 .left))
+
+pub payload-verdict-spec : {M : Type 1} → statement M
+payload-verdict-spec = tie.close (tie.spec (λ c κs. search needs) returns (λ c κs. search needs) returns-2 returns-3)

@@ -1,0 +1,17 @@
+use mathlib.Core.Path.{sym}
+use borrow.Author.Needs.{needs}
+use Rattle.laws.proofs.Lists.{take-to-end}
+use lib.ListN.{drop-of-length-le}
+use Rattle.octets.proofs.behind.Statement.{statement}
+use Rattle.octets.proofs.behind.Tie as tie
+
+returns : tie.Need-returns
+returns c = take-to-end (c .before .before .args .at) (c .before .before .args .b .now)
+
+returns-2 : tie.Need-returns-2
+returns-2 c = sym (drop-of-length-le (c .before .before .args .b .now) (c .before .if1 .left))
+
+pub behind-spec : {M : Type 1} → statement M
+behind-spec =
+    tie.close
+    (tie.spec (λ c. search needs) (λ c. search needs) (λ c. search needs) returns (λ c. search needs) returns-2)

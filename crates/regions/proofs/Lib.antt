@@ -1,0 +1,5 @@
+pub mod Regions
+pub mod Judgements
+pub mod Operations
+pub mod RwRegions
+pub mod RoundTrips
