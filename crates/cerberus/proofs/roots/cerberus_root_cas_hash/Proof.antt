@@ -3,6 +3,7 @@ use Prim.Native.Nat.{ℕ, _+_, _*_}
 use native.Mathlib.Omega.{arith}
 use Rattle.refusal.proofs.Laws.{says-yes}
 use Rattle.refusal.proofs.Steps.{decided-refused}
+use Rattle.elements.specs.RootCas.{rootsHeadLength}
 use Rattle.cerberus.proofs.Parts.{hash-within}
 use Rattle.cerberus.proofs.Answers.{told-accepted, told}
 use borrow.Author.Needs.{needs}
@@ -26,7 +27,7 @@ returns-2 : tie.Need-returns-2
 returns-2 c =
     let a = c .before .before .before .before .before .args in
     let w = c .hash-length .ensures .0 in
-    told-accepted _ _ (c .before .before .before .hash-verdict .ensures) (c .before .enum-told .given .1) (λ i. (4 + w i * a .index, w i))
+    told-accepted _ _ (c .before .before .before .hash-verdict .ensures) (c .before .enum-told .given .1) (λ i. (rootsHeadLength + w i * a .index, w i))
 
 pub cerberus-root-cas-hash-spec : {M : Type 1} → statement M
 cerberus-root-cas-hash-spec =

@@ -1,8 +1,9 @@
 use mathlib.Core.Path.{_≡_, sym, ap, _∙_}
+use lib.ListN.{length}
 use Rattle.octets.specs.Octets.{pasted}
 use Rattle.refusal.specs.Steps.{Outcome, outcome}
 use Rattle.commands.specs.declared.body.Request.{Request}
-use Rattle.commands.specs.Requests.{requestStep, Served, served, servedStep}
+use Rattle.commands.specs.Requests.{idReply, requestStep, Served, served, servedStep}
 use Rattle.commands.proofs.Replies.{silent-is}
 use borrow.Author.Needs.{needs}
 use Rattle.commands.proofs.perform.perform.Statement.{statement}
@@ -23,7 +24,7 @@ unfolding requestStep
 returns c =
     let s = c .before .before .before .before .before .before .before .before .before .before .before .before in
     let response = c .before .before .put .ensures ∙ ap (pasted (s .args .response .now) 0) (c .before .before .before .before .id-reply .ensures) in
-    by-request s (c .before .before .before .before .before .before .enum-told .given .1) (λ i. outcome 0 (served (s .args .slot) (s .args .pending .now) (s .args .active .now) (response i) 10))
+    by-request s (c .before .before .before .before .before .before .enum-told .given .1) (λ i. outcome 0 (served (s .args .slot) (s .args .pending .now) (s .args .active .now) (response i) (length (idReply (s .args .byte) (s .args .slot .active)))))
 
 returns-2 : tie.Need-returns-2
 unfolding requestStep
