@@ -1,11 +1,10 @@
 -- A slot's step in C, from that of the Rattle call: what is stored where it accepts, and that nothing is where it refuses.
-use Prim.Native.Nat.{ℕ, zero, suc, _<_}
+use Prim.Native.Nat.{ℕ, zero, suc, _<_, _≤_}
 use mathlib.Core.Path.{_≡_, sym, ap, subst, _∙_}
 use mathlib.Core.List.{List}
 use native.Mathlib.Omega.{arith}
 use Rattle.refusal.specs.declared.Refusal.{Refusal}
 use Rattle.refusal.specs.declared.Verdict.{Verdict}
-use Rattle.refusal.specs.declared.Verdict.the-variants.{Accepted, Refused}
 use Rattle.refusal.specs.Refusals.{refusalNumber, numberOf}
 use Rattle.refusal.specs.Steps.{Outcome, outcome, decided, Keeps}
 use Rattle.refusal.proofs.Laws.{refusal-positive}
@@ -15,7 +14,7 @@ use Rattle.manifest_slot.specs.declared.Opening.{Opening}
 use Rattle.manifest_slot.specs.declared.Opening
 use Rattle.manifest_slot.specs.Calls.{opened, openStep}
 use Rattle.manifest_slot.specs.Slot.{Held, held}
-use Rattle.commands.specs.Requests.{Served, served}
+use Rattle.requests.specs.Requests.{Served, served}
 use Rattle.c_encoding.specs.Slots.{slotOf, numbersOf, CSlot, cSlot, heldIn, keptIn, slotStep}
 use Rattle.c_encoding.specs.Messages.{CServed, cServed, servedIn, servedStep}
 
@@ -69,20 +68,20 @@ module _ (c : CServed) (step : Served → Outcome Served) (v : Verdict) {s : Slo
   whole : decided (numberOf v) c (cServed (cSlot (numbersOf s) pending active) response written) ≡ servedStep step c
   whole = ap (λ (o : Outcome Served). decided (o .number) c (cServed (keptIn (o .after .held)) (o .after .response) (o .after .written))) is
 
-  pub served-refused : {why : Refusal} → Keeps (servedIn c) (step (servedIn c)) → v ≡ Refused why
-      → outcome (refusalNumber why) (cServed (cSlot (c .slot .numbers) pending active) response (c .written)) ≡ servedStep step c
-  served-refused {why} keeps e =
-      let number : numberOf v ≡ refusalNumber why = ap numberOf e in
-      let refused : 0 < numberOf v = omega (arith, number, refusal-positive why) in
+  pub served-refused : {r : ℕ} → Keeps (servedIn c) (step (servedIn c)) → r ≡ numberOf v → 0 < r
+      → outcome r (cServed (cSlot (c .slot .numbers) pending active) response (c .written)) ≡ servedStep step c
+  served-refused {r} keeps e h =
+      let refused : 0 < numberOf v = subst (λ (k : ℕ). 0 < k) e h in
       let same : served s pending active response written ≡ servedIn c =
       ap (λ (o : Outcome Served). o .after) is ∙ keeps (subst (λ (k : ℕ). 0 < k) (ap (λ (o : Outcome Served). o .number) is) refused) in
-      (λ i. outcome (sym number i) (cServed (cSlot (c .slot .numbers) (same i .held .pending) (same i .held .active)) (same i .response) (c .written)))
+      (λ i. outcome (e i) (cServed (cSlot (c .slot .numbers) (same i .held .pending) (same i .held .active)) (same i .response) (c .written)))
       ∙ decided-no c _ refused
       ∙ whole
 
-  pub served-accepted : {numbers : List ℕ} → v ≡ Accepted → numbers ≡ numbersOf s
+  pub served-accepted : {r : ℕ} {numbers : List ℕ} → r ≡ numberOf v → r ≤ 0 → numbers ≡ numbersOf s
       → outcome 0 (cServed (cSlot numbers pending active) response written) ≡ servedStep step c
-  served-accepted e n =
+  served-accepted {r} e h n =
+      let none : numberOf v ≡ 0 = omega (arith, e, h) in
       (λ i. outcome 0 (cServed (cSlot (n i) pending active) response written))
-      ∙ decided-yes c _ (ap numberOf e)
+      ∙ decided-yes c _ none
       ∙ whole

@@ -10,10 +10,12 @@ use borrow.Author.Tests.{ltb-false, le-ltb, eqb-true, eqb-false, not-false}
 use Rattle.refusal.proofs.Laws.{when-accepted, when-no}
 use Rattle.laws.proofs.Tests.{and-yes, any-no, no-any}
 use Rattle.manifest_slot.specs.declared.Slot.{Slot}
-use Rattle.manifest_slot.specs.declared.Transfer.{Transfer}
-use Rattle.manifest_slot.specs.declared.Transfer.the-variants.{Idle, Receiving}
-use Rattle.manifest_slot.specs.Slot.{wrongBuffers, unsound, held}
-use Rattle.manifest_slot.specs.Calls.{openNumber, lentNumber}
+use Rattle.slot_state.specs.declared.Transfer.{Transfer}
+use Rattle.slot_state.specs.declared.Transfer.the-variants.{Idle, Receiving}
+use Rattle.slot_state.specs.State.{wrongBuffers}
+use Rattle.manifest_slot.specs.Slot.{unsound, held}
+use Rattle.slot_state.specs.Rules.{openNumber}
+use Rattle.manifest_slot.specs.Calls.{lentNumber}
 use Rattle.c_encoding.specs.Slots.{slotFaults, noSlot, transferOf, unsoundSlot, slotOf, transferNumbers, numbersOf}
 use Rattle.c_encoding.specs.Laws.{StateLaws}
 

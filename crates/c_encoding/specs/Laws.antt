@@ -9,7 +9,8 @@ use Rattle.log_text.specs.Texts.{textHistory}
 use Rattle.log_comparison.specs.Comparison.{compareJudgement, pmrComparison, comparisons}
 use Rattle.manifest_slot.specs.declared.Slot.{Slot}
 use Rattle.manifest_slot.specs.Slot.{held}
-use Rattle.manifest_slot.specs.Calls.{openNumber, lentNumber}
+use Rattle.slot_state.specs.Rules.{openNumber}
+use Rattle.manifest_slot.specs.Calls.{lentNumber}
 use Rattle.c_encoding.specs.Slots.{noSlot, slotOf, numbersOf}
 use Rattle.c_encoding.specs.Comparisons.{pmrComparisonLength, pmrComparisonBytes, comparisonBytes}
 

@@ -3,7 +3,7 @@
 use Prim.Native.Nat.{ℕ}
 use mathlib.Core.List.{List}
 use Rattle.refusal.specs.Steps.{Outcome, decided}
-use Rattle.commands.specs.Requests.{Served}
+use Rattle.requests.specs.Requests.{Served}
 use Rattle.c_encoding.specs.Slots.{CSlot, heldIn, keptIn}
 
 pub record CServed : Type 0 where

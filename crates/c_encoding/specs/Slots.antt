@@ -6,8 +6,8 @@ use lib.ListN.{getD}
 use lib.Dec.{ltb, eqb}
 use Rattle.refusal.specs.Steps.{Outcome, decided}
 use Rattle.laws.specs.Tests.{any}
-use Rattle.manifest_slot.specs.declared.Transfer.{Transfer}
-use Rattle.manifest_slot.specs.declared.Transfer.the-variants.{Idle, Receiving}
+use Rattle.slot_state.specs.declared.Transfer.{Transfer}
+use Rattle.slot_state.specs.declared.Transfer.the-variants.{Idle, Receiving}
 use Rattle.manifest_slot.specs.declared.Slot.{Slot}
 use Rattle.manifest_slot.specs.Slot.{Held, held}
 

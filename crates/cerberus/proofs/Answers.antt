@@ -1,24 +1,31 @@
--- What a call's verdict or number says of the outcome that C is told, once for all calls.
-use Prim.Native.Nat.{ℕ}
-use mathlib.Core.Path.{_≡_, sym, ap, _∙_}
-use Rattle.refusal.specs.declared.Refusal.{Refusal}
-use Rattle.refusal.specs.declared.Verdict.{Verdict}
-use Rattle.refusal.specs.declared.Verdict.the-variants.{Accepted, Refused}
-use Rattle.refusal.specs.Refusals.{refusalNumber, numberOf}
-use Rattle.refusal.specs.Steps.{Outcome, outcome, decided}
-use Rattle.refusal.proofs.Laws.{says-yes, says-no}
+-- What a call's number says of the outcome that C is told, once for all calls.
+use Prim.Native.Nat.{ℕ, _<_, _≤_}
+use mathlib.Core.Path.{_≡_, sym, ap, _∙_, subst}
+use native.Mathlib.Omega.{arith}
+use Rattle.refusal.specs.Steps.{Outcome, outcome, decided, Reply}
 use Rattle.refusal.proofs.Steps.{decided-yes, decided-no}
+use Rattle.c_encoding.specs.Answers.{shown}
 
 module _ {A : Type 0} where
-  -- a verdict v of the number n refuses: what stood before stays
-  pub told-refused : {v : Verdict} {why : Refusal} {n r : ℕ} (before done : A) → numberOf v ≡ n → v ≡ Refused why → r ≡ refusalNumber why
-      → outcome r before ≡ decided n before done
-  told-refused before done e f g = (λ i. outcome ((g ∙ ap numberOf (sym f) ∙ e) i) before) ∙ decided-no before done (says-no e f)
+  -- a number that the code asks for, whether it is 0: refused, what stood before stays
+  pub stopped : {n r : ℕ} (before done : A) → r ≡ n → 0 < r → outcome r before ≡ decided n before done
+  stopped before done e h = (λ i. outcome (e i) before) ∙ decided-no before done (subst (λ (k : ℕ). 0 < k) e h)
 
-  -- it accepts: what the call did stands there
-  pub told-accepted : {v : Verdict} {n : ℕ} {left : A} (before done : A) → numberOf v ≡ n → v ≡ Accepted → left ≡ done → outcome 0 left ≡ decided n before done
-  told-accepted before done e f is = (λ i. outcome 0 (is i)) ∙ decided-yes before done (says-yes e f)
+  -- accepted, what the call did stands there
+  pub passed : {n r : ℕ} {left : A} (before done : A) → r ≡ n → r ≤ 0 → left ≡ done → outcome 0 left ≡ decided n before done
+  passed {n} {r} before done e h is =
+      let none : n ≡ 0 = omega (arith, e, h) in
+      (λ i. outcome 0 (is i)) ∙ decided-yes before done none
 
   -- a call's own outcome, told with its number
   pub told : {n r : ℕ} {left : A} {o : Outcome A} → outcome n left ≡ o → r ≡ n → outcome r left ≡ o
   told {left = left} is e = (λ i. outcome (e i) left) ∙ is
+
+-- a reader's enum answers as `reply` says, and the match found its case
+module _ {E A : Type 0} (reply : E → Reply A) {read found : E} {is : Reply A} (e : reply read ≡ is) (f : read ≡ found) where
+  pub found-as : reply found ≡ is
+  found-as = ap reply (sym f) ∙ e
+
+  -- that case is shown
+  pub shown-as : {B : Type 0} (show : A → B) (before : B) → shown (reply found) show before ≡ shown is show before
+  shown-as show before = ap (λ (q : Reply A). shown q show before) found-as

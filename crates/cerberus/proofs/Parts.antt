@@ -9,21 +9,24 @@ use lib.ListN.{length, take, drop}
 use lib.Dec.{eqb, ltb}
 use Rattle.refusal.specs.Rules.{_when_else_, first_then_}
 use Rattle.refusal.proofs.Laws.{accepted-yes, first-accepted}
-use Rattle.log_history.specs.History.{entryLength}
+use Rattle.log_entry.specs.Entry.{entryLength}
 use Rattle.attestation_log.specs.State.{State}
 use Rattle.attestation_log.specs.Calls.{readOutStep}
 use Rattle.attestation_log.proofs.Answers.{read-bytes}
 use Rattle.manifest_slot.specs.declared.Role.{Role}
 use Rattle.manifest_slot.specs.declared.Role
-use Rattle.manifest_slot.specs.Slot.{receivedOf, Held}
+use Rattle.manifest_slot.specs.Slot.{Held}
+use Rattle.slot_state.specs.State.{receivedOf}
 use Rattle.manifest_slot.specs.Calls.{lentNumber, manifestOf, readStep}
 use Rattle.hash.specs.Types.{hashLength}
 use Rattle.regions.specs.Region.{endIsLast}
-use Rattle.elements.specs.SignedImage.{imageHeadLength, hashTypeOf, hashOf, regionsOf, imageNumber, imageHash, imageRegions}
-use Rattle.elements.specs.RootCas.{rootsHash, rootsHashNumber}
-use Rattle.elements.proofs.Roots.{roots-element, hash-accepted}
-use Rattle.elements.proofs.ByNumber.{by-number}
-use Rattle.cerberus.specs.Calls.{roleOf, manifestNumber, manifestStep, hashPlace}
+use Rattle.signed_image.specs.SignedImage.{hashOf}
+use Rattle.signed_image.specs.SignedImage.{imageHeadLength, hashTypeOf, regionsOf, imageNumber, imageHash, imageRegions}
+use Rattle.root_cas.specs.RootCas.{rootsHash, rootsHashNumber}
+use Rattle.root_cas.proofs.Roots.{roots-element, hash-accepted}
+use Rattle.root_cas.proofs.ByNumber.{by-number}
+use Rattle.c_encoding.specs.Roles.{roleOf}
+use Rattle.cerberus.specs.Calls.{manifestNumber, manifestStep, hashPlace}
 use Rattle.cerberus.specs.Laws.{PartLaws}
 
 -- a part that is the front of a list is found there by its length
@@ -60,7 +63,7 @@ image b e = (sym (accepted-yes (hashOf b) [] e), sym (accepted-yes (regionsOf b)
 hash : (hashType : ℕ) (b : List ℕ) (index : ℕ) → rootsHashNumber hashType b index ≡ 0
     → let place = hashPlace hashType index in
     take (place .1) (drop (place .0) b) ≡ rootsHash hashType b index
-hash t b i e = sym (by-number endIsLast .hash-shown t b i e .1)
+hash t b i e = sym (by-number .hash-shown t b i e .1)
 
 pub part-laws : PartLaws
 part-laws = record { text = text; manifest = manifest; image = image; hash = hash }

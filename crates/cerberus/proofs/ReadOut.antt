@@ -6,10 +6,11 @@ use native.Mathlib.Omega.{arith}
 use lib.ListN.{length}
 use lib.Seq.{length-take-le}
 use Rattle.log_history.specs.History.{capacity, entryLength}
+use Rattle.log_verdicts.specs.Numbers.{registerNumber}
+use Rattle.log_verdicts.proofs.Numbers.{check-accepted}
 use Rattle.attestation_log.specs.State.{State}
-use Rattle.attestation_log.specs.Calls.{registerNumber, registerStep, readOutStep, readOutVerdictStep}
+use Rattle.attestation_log.specs.Calls.{registerStep, readOutStep, readOutVerdictStep}
 use Rattle.attestation_log.specs.Answers.{registerBytes}
-use Rattle.attestation_log.proofs.Numbers.{check-accepted}
 use Rattle.attestation_log.proofs.Answers.{read-bytes}
 
 -- the bytes beside an accepted register read's verdict are the register
@@ -17,7 +18,7 @@ pub register-shown : (pmr : ℕ) (s : State) (buffer : List ℕ) → registerSte
     → registerBytes pmr s buffer ≡ registerStep pmr s buffer .after .bytes
 unfolding registerBytes registerStep
 register-shown pmr s buffer e =
-    let z : registerNumber pmr s buffer ≡ 0 = e in
+    let z : registerNumber pmr (s .count) (s .pmrs) buffer ≡ 0 = e in
     rw z
 
 -- a read-out has its companion's number, and the length of all entries
@@ -27,11 +28,11 @@ read-out-number s buffer = refl
 
 pub read-out-few : (s : State) (buffer : List ℕ) → readOutStep s buffer .number ≡ 0 → s .count ≤ capacity
 unfolding readOutStep
-read-out-few s buffer e = check-accepted s buffer e .counts .few
+read-out-few s buffer e = check-accepted (s .count) (s .pmrs) buffer e .counts .few
 
 pub read-out-length : (s : State) (buffer : List ℕ) → readOutStep s buffer .number ≡ 0 → entryLength * s .count ≡ length (readOutStep s buffer .after .bytes)
 unfolding readOutStep
 read-out-length s buffer e =
-    let k = check-accepted s buffer e in
+    let k = check-accepted (s .count) (s .pmrs) buffer e in
     let fits : entryLength * s .count ≤ length buffer = omega (arith, k .counts .few, k .right) in
     sym (ap length (sym (read-bytes s buffer e)) ∙ length-take-le (entryLength * s .count) buffer fits)

@@ -1,6 +1,6 @@
 -- What the C calls answer and leave, by the definitions of the calls that they stand for. A refused call writes to no pointer.
 use Prim.Native.Nat.{ℕ, _+_, _*_}
-use mathlib.Core.Bool.{Bool, cond}
+use mathlib.Core.Bool.{Bool}
 use mathlib.Core.List.{List, []}
 use mathlib.Core.Option.{Option, none, some}
 use lib.ListN.{length}
@@ -12,17 +12,16 @@ use Rattle.refusal.specs.Steps.{Outcome, outcome, decided}
 use Rattle.octets.specs.Octets.{pasted}
 use Rattle.refusal.specs.Rules.{_when_else_, first_then_}
 use Rattle.manifest_slot.specs.Slot.{Held}
-use Rattle.manifest_slot.specs.declared.Role.{Role}
-use Rattle.manifest_slot.specs.declared.Role
 use Rattle.manifest_slot.specs.Calls.{lentNumber, manifestOf}
 use Rattle.laws.specs.Tests.{bitOf}
 use Rattle.certificate_slots.specs.Slots.{chainCount, lowestChain}
 use Rattle.hash.specs.Types.{hashLength}
 use Rattle.regions.specs.declared.region.Region.{Region}
 use Rattle.regions.specs.RwRegion.{RwFields}
-use Rattle.elements.specs.declared.signed_image.SignedImage.{SignedImage}
-use Rattle.elements.specs.declared.root_cas.RootCas.{RootCas}
-use Rattle.elements.specs.RootCas.{rootsHeadLength}
+use Rattle.signed_image.specs.declared.SignedImage.{SignedImage}
+use Rattle.root_cas.specs.declared.RootCas.{RootCas}
+use Rattle.root_cas.specs.RootCas.{rootsHeadLength}
+use Rattle.c_encoding.specs.Roles.{roleOf}
 
 -- ---- the refusals' meaning: "3 text has under 80 bytes; 5 number is not 1 to 12"
 
@@ -47,9 +46,6 @@ meaningStep n text len =
     decided (meaningNumber n text) (text, len) (pasted text 0 meaning, length meaning)
 
 -- ---- the manifest of a role: "0 active, 1 pending"; another number is 5, after the slot's own refusals
-
-abbrev pub roleOf : ℕ → Role
-roleOf n = cond (eqb n 0) Role.Active Role.Pending
 
 unfoldable pub manifestNumber : ℕ → Held → ℕ
 manifestNumber role h =

@@ -13,8 +13,8 @@ use Rattle.attestation_log.specs.Calls.{readOutStep}
 use Rattle.manifest_slot.specs.Slot.{Held}
 use Rattle.hash.specs.Types.{hashLength}
 use Rattle.regions.specs.Region.{endIsLast}
-use Rattle.elements.specs.SignedImage.{imageHeadLength, hashTypeOf, imageNumber, imageHash, imageRegions}
-use Rattle.elements.specs.RootCas.{rootsHash, rootsHashNumber}
+use Rattle.signed_image.specs.SignedImage.{imageHeadLength, hashTypeOf, imageNumber, imageHash, imageRegions}
+use Rattle.root_cas.specs.RootCas.{rootsHash, rootsHashNumber}
 use Rattle.cerberus.specs.Calls.{noRefusal, manifestStep, hashPlace}
 
 -- ---- the refusals' meaning

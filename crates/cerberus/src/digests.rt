@@ -1,6 +1,5 @@
 // Hashes, and HMAC-SHA-256.
 use hmac::hmac_sha256;
-use refusal::Verdict;
 use sha256::sha256;
 use sha512::sha384;
 use sha512::sha512;
@@ -16,14 +15,13 @@ pub extern "C" fn cerberus_sha256(message: &[u8], digest: &mut [u8; 32]) -> u8
 {
     let hashed = sha256(message);
     let verdict = hashed.verdict;
-    match verdict {
-        Verdict::Refused(why) => why.number(),
-        Verdict::Accepted => {
-            let bytes = hashed.digest;
-            *digest = bytes;
-            0
-        }
+    let number = verdict.number();
+    if 0 < number {
+        return number;
     }
+    let bytes = hashed.digest;
+    *digest = bytes;
+    0
 }
 
 #[no_mangle]
@@ -50,12 +48,11 @@ pub extern "C" fn cerberus_hmac_sha256(key: &[u8], text: &[u8], mac: &mut [u8; 3
 {
     let made = hmac_sha256(key, text);
     let verdict = made.verdict;
-    match verdict {
-        Verdict::Refused(why) => why.number(),
-        Verdict::Accepted => {
-            let bytes = made.mac;
-            *mac = bytes;
-            0
-        }
+    let number = verdict.number();
+    if 0 < number {
+        return number;
     }
+    let bytes = made.mac;
+    *mac = bytes;
+    0
 }

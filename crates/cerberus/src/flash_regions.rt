@@ -8,7 +8,7 @@ use regions::rw_region::RwRegion;
 use regions::rw_region::RwRegionRead;
 ghost use mathlib.Core.Path.{_≡_};
 ghost use Rattle.refusal.specs.Steps.{outcome, reply};
-ghost use Rattle.regions.specs.Region.{endIsLast, readRegion, regionWriteStep};
+ghost use Rattle.regions.specs.Region.{endIsLast, readRegion, regionReply, regionWriteStep};
 ghost use Rattle.regions.specs.RwRegion.{rwRegionNumber, rwRegionFields, rwRegionWriteStep};
 ghost use Rattle.c_encoding.specs.Answers.{shown};
 ghost use Rattle.cerberus.specs.Calls.{addresses, rwValues};
@@ -17,7 +17,13 @@ ghost use Rattle.cerberus.specs.Calls.{addresses, rwValues};
 pub extern "C" fn cerberus_region_read(element: &[u8], start: &mut u32, end: &mut u32) -> u8
     ensures { λ r. ⌜ outcome r (now (start .exit), now (end .exit)) ≡ shown (readRegion endIsLast (now (element .entry))) addresses (now (start .entry), now (end .entry)) ⌝ }
 {
-    let read = Region::read(element);
+    show_region(Region::read(element), start, end)
+}
+
+// What C is told of a region that was read, alone or out of a signed image.
+pub(crate) fn show_region(read: RegionRead, start: &mut u32, end: &mut u32) -> u8
+    ensures { λ r. ⌜ outcome r (now (start .exit), now (end .exit)) ≡ shown (regionReply read) addresses (now (start .entry), now (end .entry)) ⌝ }
+{
     match read {
         RegionRead::Malformed => Refusal::MalformedElement.number(),
         RegionRead::Read(region) => {

@@ -1,12 +1,12 @@
 // Signed images.
-use elements::signed_image::SignedImage;
-use elements::signed_image::SignedImageRead;
+use crate::flash_regions::show_region;
 use refusal::Refusal;
-use regions::region::RegionRead;
+use signed_image::SignedImage;
+use signed_image::SignedImageRead;
 ghost use mathlib.Core.Path.{_≡_};
 ghost use Rattle.refusal.specs.Steps.{outcome, reply};
 ghost use Rattle.regions.specs.Region.{endIsLast};
-ghost use Rattle.elements.specs.SignedImage.{imageNumber, imageFields, imageRegion, imageWriteStep};
+ghost use Rattle.signed_image.specs.SignedImage.{imageNumber, imageFields, imageRegion, imageWriteStep};
 ghost use Rattle.c_encoding.specs.Answers.{shown};
 ghost use Rattle.cerberus.specs.Calls.{addresses, imageValues};
 
@@ -43,15 +43,7 @@ pub extern "C" fn cerberus_signed_image_region(
 ) -> u8
     ensures { λ r. ⌜ outcome r (now (start .exit), now (end .exit)) ≡ shown (imageRegion endIsLast (now (element .entry)) index) addresses (now (start .entry), now (end .entry)) ⌝ }
 {
-    let read = SignedImage::region(element, index);
-    match read {
-        RegionRead::Malformed => Refusal::MalformedElement.number(),
-        RegionRead::Read(region) => {
-            *start = region.start;
-            *end = region.end;
-            0
-        }
-    }
+    show_region(SignedImage::region(element, index), start, end)
 }
 
 #[no_mangle]

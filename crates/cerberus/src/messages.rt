@@ -1,10 +1,10 @@
 // Cerberus messages.
+use c_encoding::flags::yes;
 use c_encoding::slot_numbers::numbers_of;
 use c_encoding::slot_numbers::slot_of;
 use commands::command;
 use message_header::Heading;
 use message_header::command_of;
-use refusal::Verdict;
 ghost use mathlib.Core.Path.{_≡_};
 ghost use lib.Dec.{eqb};
 ghost use Rattle.refusal.specs.Steps.{outcome};
@@ -38,16 +38,15 @@ pub extern "C" fn cerberus_command(
         ≡ servedStep (commandStep (eqb «signature_good» 1) (now (message .entry))) (cServed (cSlot (now (slot .entry)) (now (pending .entry)) (now (active .entry))) (now (response .entry)) (now (written .entry))) ⌝ }
 {
     let numbers = *slot;
-    let good = signature_good == 1;
+    let good = yes(signature_good);
     let answer = command(slot_of(numbers), good, message, pending, active, response);
     let verdict = answer.verdict;
-    match verdict {
-        Verdict::Refused(why) => why.number(),
-        Verdict::Accepted => {
-            let next = answer.slot;
-            *slot = numbers_of(next);
-            *written = answer.written;
-            0
-        }
+    let number = verdict.number();
+    if 0 < number {
+        return number;
     }
+    let next = answer.slot;
+    *slot = numbers_of(next);
+    *written = answer.written;
+    0
 }

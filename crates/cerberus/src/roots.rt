@@ -1,11 +1,11 @@
 // Root CAs. The hash type is the caller's.
-use elements::root_cas::RootCas;
-use elements::root_cas::RootCasRead;
 use refusal::Refusal;
 use refusal::Verdict;
+use root_cas::RootCas;
+use root_cas::RootCasRead;
 ghost use mathlib.Core.Path.{_≡_};
 ghost use Rattle.refusal.specs.Steps.{outcome, decided, reply};
-ghost use Rattle.elements.specs.RootCas.{rootsNumber, rootsFields, rootsHashNumber, rootsWriteStep};
+ghost use Rattle.root_cas.specs.RootCas.{rootsNumber, rootsFields, rootsHashNumber, rootsWriteStep};
 ghost use Rattle.c_encoding.specs.Answers.{shown};
 ghost use Rattle.cerberus.specs.Calls.{rootsValues, hashPlace};
 

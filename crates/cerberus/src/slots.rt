@@ -1,22 +1,21 @@
 // The manifest slot: its state is six integers behind a pointer.
+use c_encoding::flags::yes;
+use c_encoding::roles::role_of;
+use c_encoding::roles::role_verdict;
 use c_encoding::slot_numbers::numbers_of;
 use c_encoding::slot_numbers::slot_of;
 use manifest_slot::Answer;
 use manifest_slot::Opening;
-use manifest_slot::Role;
 use manifest_slot::Slot;
-use refusal::Refusal;
-use refusal::Verdict;
 use refusal::first;
 ghost use mathlib.Core.Path.{_≡_};
-ghost use lib.Dec.{eqb, ltb};
+ghost use lib.Dec.{eqb};
 ghost use Rattle.refusal.specs.Refusals.{numberOf};
-ghost use Rattle.refusal.specs.Rules.{_when_else_};
 ghost use Rattle.refusal.specs.Steps.{outcome, decided};
 ghost use Rattle.manifest_slot.specs.Calls.{openStep, prepareStep, updateStep, activateStep};
 ghost use Rattle.c_encoding.specs.Answers.{lengthShown};
 ghost use Rattle.c_encoding.specs.Slots.{numbersOf, cSlot, heldIn, slotStep};
-ghost use Rattle.cerberus.specs.Calls.{roleOf, manifestStep};
+ghost use Rattle.cerberus.specs.Calls.{manifestStep};
 
 #[no_mangle]
 pub extern "C" fn cerberus_slot_open(
@@ -42,14 +41,13 @@ fn store(slot: &mut [u64; 6], answer: Answer) -> u8
     ensures { λ r. ⌜ outcome r (now (slot .exit)) ≡ decided (numberOf (answer .verdict)) (now (slot .entry)) (numbersOf (answer .slot)) ⌝ }
 {
     let verdict = answer.verdict;
-    match verdict {
-        Verdict::Refused(why) => why.number(),
-        Verdict::Accepted => {
-            let next = answer.slot;
-            *slot = numbers_of(next);
-            0
-        }
+    let number = verdict.number();
+    if 0 < number {
+        return number;
     }
+    let next = answer.slot;
+    *slot = numbers_of(next);
+    0
 }
 
 #[no_mangle]
@@ -92,26 +90,9 @@ pub extern "C" fn cerberus_slot_activate(
         ≡ slotStep (activateStep (eqb «signature_good» 1)) (cSlot (now (slot .entry)) (now (pending .entry)) (now (active .entry))) ⌝ }
 {
     let numbers = *slot;
-    let answer = slot_of(numbers).activate(signature_good == 1, pending, active);
+    let good = yes(signature_good);
+    let answer = slot_of(numbers).activate(good, pending, active);
     store(slot, answer)
-}
-
-fn role_verdict(role: u8) -> Verdict
-    ensures { λ r. ⌜ numberOf r ≡ (5 when ltb 1 role else 0) ⌝ }
-{
-    if 1 < role {
-        return Verdict::Refused(Refusal::OutOfRange);
-    }
-    Verdict::Accepted
-}
-
-fn role_of(role: u8) -> Role
-    ensures { λ r. ⌜ r ≡ roleOf role ⌝ }
-{
-    if role == 0 {
-        return Role::Active;
-    }
-    Role::Pending
 }
 
 #[no_mangle]
@@ -129,12 +110,11 @@ pub extern "C" fn cerberus_slot_manifest<'a>(
     let asked = role_of(role);
     let lent = held.manifest_verdict(asked, pending, active);
     let verdict = first(lent, role_verdict(role));
-    match verdict {
-        Verdict::Refused(why) => why.number(),
-        Verdict::Accepted => {
-            let manifest = held.manifest(asked, pending, active);
-            *length = manifest.len();
-            0
-        }
+    let number = verdict.number();
+    if 0 < number {
+        return number;
     }
+    let manifest = held.manifest(asked, pending, active);
+    *length = manifest.len();
+    0
 }

@@ -1,36 +1,20 @@
 -- Where the command call ends, by what it asked before.
 use Prim.Native.Nat.{ℕ}
-use mathlib.Core.Path.{_≡_, refl, sym, ap, _∙_}
-use mathlib.Core.Bool.{Bool, true, false, _||_}
+use mathlib.Core.Path.{_≡_, sym, ap, _∙_}
+use mathlib.Core.Bool.{Bool}
 use mathlib.Core.List.{List}
-use lib.ListN.{length}
-use lib.Dec.{ltb}
 use Rattle.refusal.specs.declared.Refusal.{Refusal}
 use Rattle.refusal.specs.declared.Verdict.{Verdict}
 use Rattle.refusal.specs.declared.Verdict.the-variants.{Refused}
 use Rattle.refusal.specs.Refusals.{refusalNumber, numberOf}
-use Rattle.refusal.specs.Rules.{_when_else_, first_then_}
-use Rattle.refusal.specs.Steps.{outcome, reply, refusedBy}
+use Rattle.refusal.specs.Steps.{Outcome, outcome, reply, refusedBy}
 use Rattle.refusal.proofs.Laws.{accepted-no, says-no}
-use Rattle.manifest_slot.specs.Slot.{wrongBuffers, unsound}
-use Rattle.manifest_slot.specs.Calls.{lentNumber}
 use Rattle.message_header.specs.declared.Command.{Command}
 use Rattle.message_header.specs.Header.{commandOf, commandByte, bodyOf}
-use Rattle.commands.specs.declared.body.Request.{Request}
-use Rattle.commands.specs.Bodies.{requestOf}
-use Rattle.commands.specs.Requests.{Served, servedStep}
-use Rattle.commands.specs.Commands.{responseLength, readyNumber, commandStep}
-
--- the response's length and then the slot's own rules are what every command asks first
-ready-chain : (w r u : Bool) → (first 3 when r else 0 then 3 when w else 4 when u else 0) ≡ (3 when (w || r) else 4 when u else 0)
-ready-chain true true u = refl
-ready-chain true false u = refl
-ready-chain false true u = refl
-ready-chain false false u = refl
-
-pub ready-asked : (b : Served) → (first 3 when ltb (length (b .response)) responseLength else 0 then lentNumber (b .held)) ≡ readyNumber b
-unfolding lentNumber readyNumber
-ready-asked b = ready-chain (wrongBuffers (b .held .pending) (b .held .active)) (ltb (length (b .response)) responseLength) (unsound (b .held .slot))
+use Rattle.command_bodies.specs.declared.Request.{Request}
+use Rattle.command_bodies.specs.Bodies.{requestOf}
+use Rattle.requests.specs.Requests.{Served, servedStep}
+use Rattle.commands.specs.Commands.{readyNumber, commandStep}
 
 module _ (good : Bool) (message : List ℕ) (b : Served) where
   -- buffers or state are refused
@@ -51,7 +35,8 @@ module _ (good : Bool) (message : List ℕ) (b : Served) where
   step-unasked e h k = sym (rw (e, h, k))
 
   -- the request decides
-  pub step-asked : {c : Command} {r : Request} → readyNumber b ≡ 0 → commandOf message ≡ reply 0 c → requestOf c (bodyOf message) ≡ reply 0 r
-      → servedStep good (commandByte message) (bodyOf message) r b ≡ commandStep good message b
+  pub step-asked : {c : Command} {r : Request} {byte : ℕ} {body : List ℕ} {o : Outcome Served} → readyNumber b ≡ 0 → commandOf message ≡ reply 0 c
+      → requestOf c (bodyOf message) ≡ reply 0 r → byte ≡ commandByte message → body ≡ bodyOf message → o ≡ servedStep good byte body r b
+      → o ≡ commandStep good message b
   unfolding commandStep
-  step-asked e h k = sym (rw (e, h, k))
+  step-asked {r = r} e h k p q is = is ∙ (λ i. servedStep good (p i) (q i) r b) ∙ sym (rw (e, h, k))

@@ -7,7 +7,7 @@ use lib.ListN.{take, drop}
 use Rattle.octets.specs.Octets.{numberAt}
 use Rattle.refusal.specs.Steps.{Keeps}
 use Rattle.message_header.specs.Header.{headerLength, commandOf, commandByte}
-use Rattle.commands.specs.Requests.{Served}
+use Rattle.requests.specs.Requests.{Served}
 use Rattle.commands.specs.Commands.{responseLength, commandStep}
 
 pub record CommandClaims : Type 0 where

@@ -6,10 +6,11 @@ use lib.ListN.{length}
 use lib.Dec.{ltb}
 use Rattle.refusal.specs.Rules.{_when_else_, accepted_then_else_}
 use Rattle.refusal.specs.Steps.{Outcome, outcome, given}
-use Rattle.manifest_slot.specs.Slot.{wrongBuffers, unsound}
+use Rattle.slot_state.specs.State.{wrongBuffers}
+use Rattle.manifest_slot.specs.Slot.{unsound}
 use Rattle.message_header.specs.Header.{commandOf, commandByte, bodyOf}
-use Rattle.commands.specs.Bodies.{requestOf}
-use Rattle.commands.specs.Requests.{Served, servedStep}
+use Rattle.command_bodies.specs.Bodies.{requestOf}
+use Rattle.requests.specs.Requests.{Served, servedStep}
 
 -- "The response buffer must have at least ten bytes for every command, else 3"
 abbrev pub responseLength : ℕ

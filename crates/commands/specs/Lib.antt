@@ -1,4 +1,2 @@
-pub mod Bodies
-pub mod Requests
 pub mod Commands
 pub mod Claims

@@ -1,28 +1,19 @@
 // The four PCD commands over a manifest slot.
-mod body;
-mod perform;
-
-use body::Asked;
-use body::request_of;
+use command_bodies::Asked;
+use command_bodies::request_of;
 use manifest_slot::Slot;
 use message_header::HEADER_LEN;
 use message_header::Heading;
 use message_header::command_of;
-use perform::REPLY_LEN;
-use perform::perform;
 use refusal::Refusal;
 use refusal::Verdict;
+use requests::Answer;
+use requests::REPLY_LEN;
+use requests::perform;
 ghost use mathlib.Core.Path.{_≡_};
 ghost use Rattle.refusal.specs.Refusals.{numberOf};
-ghost use Rattle.commands.specs.Requests.{refusedAnswer, served, answered};
+ghost use Rattle.requests.specs.Requests.{refusedAnswer, served, answered};
 ghost use Rattle.commands.specs.Commands.{readyNumber, commandStep};
-
-// A command's verdict, the next slot, and how many bytes of response it wrote.
-pub struct Answer {
-    pub verdict: Verdict,
-    pub slot: Slot,
-    pub written: usize,
-}
 
 // What every command asks of its buffers and of the slot.
 fn ready_verdict(slot: Slot, pending: &[u8], active: &[u8], response: &[u8]) -> Verdict

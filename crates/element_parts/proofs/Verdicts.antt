@@ -1,7 +1,7 @@
 -- What a reader's judgement says of its reply and of the parts that it shows, and a writer's of its step: once for all elements.
 use Prim.Native.Nat.{ℕ}
 use mathlib.Core.Path.{_≡_, refl, sym, ap, _∙_}
-use mathlib.Core.Bool.{Bool, true, false, not, _||_}
+use mathlib.Core.Bool.{Bool, true, false, not}
 use mathlib.Core.List.{List, [], _∷_}
 use native.Mathlib.Omega.{arith}
 use borrow.Author.Tests.{ne-eqb}
@@ -38,13 +38,6 @@ read-refused true e = refl
 read-refused false e = absurd (let z : _≡_ {A = ℕ} 0 12 = e in omega arith)
 
 -- ---- a writer
-
--- a test that can't hold, before another, and one that does
-pub or-left : {a : Bool} (b : Bool) → a ≡ false → (a || b) ≡ b
-or-left b e = rw e
-
-pub or-yes : {a : Bool} (b : Bool) → a ≡ true → (a || b) ≡ true
-or-yes b e = rw e
 
 pub write-yes : {m : Bool} {n k : ℕ} → m ≡ false → k ≡ n → writeNumber m n k ≡ 0
 write-yes {n = n} {k = k} e f = rw (e, equal-no f)

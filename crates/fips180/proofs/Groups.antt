@@ -3,22 +3,37 @@
 use Prim.Native.Nat.{ℕ, zero, suc, _+_, _-_, _*_, _/_, _%_, _<_, _≤_}
 use mathlib.Core.Path.{_≡_, refl, sym, ap, subst, _∙_}
 use mathlib.Core.Logic.{⊎-elim}
-use mathlib.Core.List.{List}
+use mathlib.Core.List.{List, [], _∷_, _++_}
 use native.Mathlib.Nat.{eq-or-lt-of-le}
 use native.Mathlib.Omega.{arith}
 use lib.ListN.{length, getD, set, take, drop, length-set}
-use lib.Seq.{getD-set-same, getD-set-other, getD-take, getD-drop}
+use lib.Seq.{getD-set-same, getD-set-other, getD-take, getD-drop, take-suc-set}
 use Rattle.fips180.specs.Family.{Family, smallSigma0, smallSigma1}
-use Rattle.fips180.specs.Padding.{wordsOf}
+use Rattle.fips180.specs.Padding.{wordAt, wordsOf}
 use Rattle.fips180.specs.Hash.{plus, nextWord, schedule, round, afterRounds, sums, compress}
-use Rattle.fips180.specs.Groups.{queueWord, advanced, groupWords, roundsFrom, afterGroups}
+use Rattle.fips180.specs.Groups.{filled, queueWord, advanced, groupWords, roundsFrom, afterGroups}
+use Rattle.laws.proofs.Lists.{store-all}
 use Rattle.fips180.proofs.Schedule.{length-wordsOf, schedule-stays, schedule-word}
+
+module _ (g : ℕ → List ℕ → ℕ) where
+  length-filled : (n : ℕ) (q : List ℕ) → length (filled g n q) ≡ length q
+  unfolding filled
+  length-filled zero q = refl
+  length-filled (suc n) q = length-set (filled g n q) n (g n (filled g n q)) ∙ length-filled n q
+
+  -- word i, once it is in its place, stays
+  filled-word : (i n : ℕ) (q : List ℕ) → i < n → getD (filled g n q) i 0 ≡ getD (filled g (suc i) q) i 0
+  unfolding filled
+  filled-word i zero q h = absurd (omega arith)
+  filled-word i (suc n) q h =
+      ⊎-elim (λ (e : i ≡ n). ap (λ (k : ℕ). getD (filled g (suc k) q) i 0) (sym e))
+      (λ (l : i < n). getD-set-other (filled g n q) n i (g n (filled g n q)) 0 (λ e. omega arith) ∙ filled-word i n q l)
+      (eq-or-lt-of-le (omega arith))
 
 module _ (f : Family) where
   length-advanced : (n : ℕ) (q : List ℕ) → length (advanced f n q) ≡ length q
   unfolding advanced
-  length-advanced zero q = refl
-  length-advanced (suc n) q = length-set (advanced f n q) n (queueWord f n (advanced f n q)) ∙ length-advanced n q
+  length-advanced n q = length-filled (queueWord f) n q
 
   length-groupWords : (b : List ℕ) (g : ℕ) → length (groupWords f b g) ≡ 16
   unfolding groupWords
@@ -58,7 +73,7 @@ module _ (f : Family) where
         (eq-or-lt-of-le (omega arith))
 
     holds-advanced : (t k : ℕ) (q : List ℕ) → t % 16 ≡ 0 → k ≤ 16 → t + k ≤ n → length q ≡ 16 → Holds t q → Holds (t + k) (advanced f k q)
-    unfolding advanced
+    unfolding advanced filled
     holds-advanced t zero q e s h l p = let z : t ≡ t + 0 = omega arith in subst (λ (x : ℕ). Holds x q) z p
     holds-advanced t (suc k) q e s h l p =
         let z : suc (t + k) ≡ t + suc k = omega arith in
@@ -116,125 +131,91 @@ module _ (f : Family) where
   constant-is ks t i h e =
       ap (λ (l : List ℕ). getD l i 0) e ∙ getD-take 16 (drop t (f .constants)) i 0 h ∙ getD-drop t (f .constants) i 0
 
-  rounds-none : (ws s : List ℕ) (t : ℕ) → s ≡ roundsFrom f t ws s 0
-  unfolding roundsFrom
-  rounds-none ws s t = refl
-
   rounds-more : {x r : List ℕ} (ks ws s : List ℕ) (t i : ℕ) → i < 16 → ks ≡ take 16 (drop t (f .constants))
       → x ≡ round f (getD ks i 0) (getD ws i 0) r → r ≡ roundsFrom f t ws s i → x ≡ roundsFrom f t ws s (suc i)
   unfolding roundsFrom
   rounds-more ks ws s t i h k e p = e ∙ (λ j. round f (constant-is ks t i h k j) (getD ws i 0) (p j))
 
-  -- one word of the queue and its round: the queue and the working variables after i of sixteen rounds from round t on, from q and s
-  record Reached (t : ℕ) (q s : List ℕ) (i : ℕ) (w r : List ℕ) : Type 0 where
-    queue : w ≡ advanced f i q
-    state : r ≡ roundsFrom f t (advanced f 16 q) s i
+  -- ---- sixteen rounds, where g i q is the word that takes place i of the queue q before round i of them
 
-  -- word i, once it is replaced, stays
-  advanced-word : (i n : ℕ) (q : List ℕ) → i < n → getD (advanced f n q) i 0 ≡ getD (advanced f (suc i) q) i 0
-  unfolding advanced
-  advanced-word i zero q h = absurd (omega arith)
-  advanced-word i (suc n) q h =
-      ⊎-elim (λ (e : i ≡ n). ap (λ (k : ℕ). getD (advanced f (suc k) q) i 0) (sym e))
-      (λ (l : i < n). getD-set-other (advanced f n q) n i (queueWord f n (advanced f n q)) 0 (λ e. omega arith) ∙ advanced-word i n q l)
-      (eq-or-lt-of-le (omega arith))
+  module _ (g : ℕ → List ℕ → ℕ) where
+    -- the queue and the working variables after i of the sixteen rounds from round t on, from q and s
+    record Reached (t : ℕ) (q s : List ℕ) (i : ℕ) (w r : List ℕ) : Type 0 where
+      queue : w ≡ filled g i q
+      state : r ≡ roundsFrom f t (filled g 16 q) s i
 
-  reached-none : (t : ℕ) (q s : List ℕ) → Reached t q s 0 q s
-  unfolding advanced roundsFrom
-  reached-none t q s = record { queue = refl; state = refl }
+    reached-none : (t : ℕ) (q s : List ℕ) → Reached t q s 0 q s
+    unfolding filled roundsFrom
+    reached-none t q s = record { queue = refl; state = refl }
 
-  reached-more : {w r v x : List ℕ} (ks q s : List ℕ) (t i : ℕ) → i < 16 → ks ≡ take 16 (drop t (f .constants))
-      → v ≡ set w i (queueWord f i w) → x ≡ round f (getD ks i 0) (getD v i 0) r → Reached t q s i w r → Reached t q s (suc i) v x
-  unfolding advanced
-  reached-more {r = r} ks q s t i h k d e p =
-      let a = d ∙ ap (λ (y : List ℕ). set y i (queueWord f i y)) (p .queue) in
-      let b = ap (λ (y : List ℕ). getD y i 0) a ∙ sym (advanced-word i 16 q h) in
-      record {
-        queue = a;
-        state = rounds-more ks (advanced f 16 q) s t i h k (e ∙ ap (λ (y : ℕ). round f (getD ks i 0) y r) b) (p .state);
-      }
+    reached-more : {w r v x : List ℕ} (ks q s : List ℕ) (t i : ℕ) → i < 16 → ks ≡ take 16 (drop t (f .constants))
+        → v ≡ set w i (g i w) → x ≡ round f (getD ks i 0) (getD v i 0) r → Reached t q s i w r → Reached t q s (suc i) v x
+    unfolding filled
+    reached-more {r = r} ks q s t i h k d e p =
+        let a = d ∙ ap (λ (y : List ℕ). set y i (g i y)) (p .queue) in
+        let b = ap (λ (y : List ℕ). getD y i 0) a ∙ sym (filled-word g i 16 q h) in
+        record {
+          queue = a;
+          state = rounds-more ks (filled g 16 q) s t i h k (e ∙ ap (λ (y : ℕ). round f (getD ks i 0) y r) b) (p .state);
+        }
 
-  -- ---- sixteen of each in a row
+    -- the next word of the queue w to v, and its round from r to x
+    abbrev pub Next : List ℕ → ℕ → List ℕ → List ℕ → List ℕ → List ℕ → Type 0
+    Next ks i w r v x = (v ≡ set w i (g i w)) × (x ≡ round f (getD ks i 0) (getD v i 0) r)
 
-  pub sixteen-rounds : {s1 s2 s3 s4 s5 s6 s7 s8 s9 s10 s11 s12 s13 s14 s15 s16 : List ℕ} (ks ws s : List ℕ) (t : ℕ) → ks ≡ take 16 (drop t (f .constants))
-      → s1 ≡ round f (getD ks 0 0) (getD ws 0 0) s
-      → s2 ≡ round f (getD ks 1 0) (getD ws 1 0) s1
-      → s3 ≡ round f (getD ks 2 0) (getD ws 2 0) s2
-      → s4 ≡ round f (getD ks 3 0) (getD ws 3 0) s3
-      → s5 ≡ round f (getD ks 4 0) (getD ws 4 0) s4
-      → s6 ≡ round f (getD ks 5 0) (getD ws 5 0) s5
-      → s7 ≡ round f (getD ks 6 0) (getD ws 6 0) s6
-      → s8 ≡ round f (getD ks 7 0) (getD ws 7 0) s7
-      → s9 ≡ round f (getD ks 8 0) (getD ws 8 0) s8
-      → s10 ≡ round f (getD ks 9 0) (getD ws 9 0) s9
-      → s11 ≡ round f (getD ks 10 0) (getD ws 10 0) s10
-      → s12 ≡ round f (getD ks 11 0) (getD ws 11 0) s11
-      → s13 ≡ round f (getD ks 12 0) (getD ws 12 0) s12
-      → s14 ≡ round f (getD ks 13 0) (getD ws 13 0) s13
-      → s15 ≡ round f (getD ks 14 0) (getD ws 14 0) s14
-      → s16 ≡ round f (getD ks 15 0) (getD ws 15 0) s15
-      → s16 ≡ roundsFrom f t ws s 16
-  sixteen-rounds ks ws s t k e1 e2 e3 e4 e5 e6 e7 e8 e9 e10 e11 e12 e13 e14 e15 e16 =
-      let r0 = rounds-none ws s t in
-      let r1 = rounds-more ks ws s t 0 (omega arith) k e1 r0 in
-      let r2 = rounds-more ks ws s t 1 (omega arith) k e2 r1 in
-      let r3 = rounds-more ks ws s t 2 (omega arith) k e3 r2 in
-      let r4 = rounds-more ks ws s t 3 (omega arith) k e4 r3 in
-      let r5 = rounds-more ks ws s t 4 (omega arith) k e5 r4 in
-      let r6 = rounds-more ks ws s t 5 (omega arith) k e6 r5 in
-      let r7 = rounds-more ks ws s t 6 (omega arith) k e7 r6 in
-      let r8 = rounds-more ks ws s t 7 (omega arith) k e8 r7 in
-      let r9 = rounds-more ks ws s t 8 (omega arith) k e9 r8 in
-      let r10 = rounds-more ks ws s t 9 (omega arith) k e10 r9 in
-      let r11 = rounds-more ks ws s t 10 (omega arith) k e11 r10 in
-      let r12 = rounds-more ks ws s t 11 (omega arith) k e12 r11 in
-      let r13 = rounds-more ks ws s t 12 (omega arith) k e13 r12 in
-      let r14 = rounds-more ks ws s t 13 (omega arith) k e14 r13 in
-      let r15 = rounds-more ks ws s t 14 (omega arith) k e15 r14 in
-      rounds-more ks ws s t 15 (omega arith) k e16 r15
+    pub sixteen-rounds : {s1 s2 s3 s4 s5 s6 s7 s8 s9 s10 s11 s12 s13 s14 s15 s16 q1 q2 q3 q4 q5 q6 q7 q8 q9 q10 q11 q12 q13 q14 q15 q16 : List ℕ}
+        (ks q s : List ℕ) (t : ℕ) → ks ≡ take 16 (drop t (f .constants))
+        → Next ks 0 q s q1 s1
+        → Next ks 1 q1 s1 q2 s2
+        → Next ks 2 q2 s2 q3 s3
+        → Next ks 3 q3 s3 q4 s4
+        → Next ks 4 q4 s4 q5 s5
+        → Next ks 5 q5 s5 q6 s6
+        → Next ks 6 q6 s6 q7 s7
+        → Next ks 7 q7 s7 q8 s8
+        → Next ks 8 q8 s8 q9 s9
+        → Next ks 9 q9 s9 q10 s10
+        → Next ks 10 q10 s10 q11 s11
+        → Next ks 11 q11 s11 q12 s12
+        → Next ks 12 q12 s12 q13 s13
+        → Next ks 13 q13 s13 q14 s14
+        → Next ks 14 q14 s14 q15 s15
+        → Next ks 15 q15 s15 q16 s16
+        → (q16 ≡ filled g 16 q) × (s16 ≡ roundsFrom f t q16 s 16)
+    sixteen-rounds ks q s t k e1 e2 e3 e4 e5 e6 e7 e8 e9 e10 e11 e12 e13 e14 e15 e16 =
+        let r0 = reached-none t q s in
+        let r1 = reached-more ks q s t 0 (omega arith) k (e1 .0) (e1 .1) r0 in
+        let r2 = reached-more ks q s t 1 (omega arith) k (e2 .0) (e2 .1) r1 in
+        let r3 = reached-more ks q s t 2 (omega arith) k (e3 .0) (e3 .1) r2 in
+        let r4 = reached-more ks q s t 3 (omega arith) k (e4 .0) (e4 .1) r3 in
+        let r5 = reached-more ks q s t 4 (omega arith) k (e5 .0) (e5 .1) r4 in
+        let r6 = reached-more ks q s t 5 (omega arith) k (e6 .0) (e6 .1) r5 in
+        let r7 = reached-more ks q s t 6 (omega arith) k (e7 .0) (e7 .1) r6 in
+        let r8 = reached-more ks q s t 7 (omega arith) k (e8 .0) (e8 .1) r7 in
+        let r9 = reached-more ks q s t 8 (omega arith) k (e9 .0) (e9 .1) r8 in
+        let r10 = reached-more ks q s t 9 (omega arith) k (e10 .0) (e10 .1) r9 in
+        let r11 = reached-more ks q s t 10 (omega arith) k (e11 .0) (e11 .1) r10 in
+        let r12 = reached-more ks q s t 11 (omega arith) k (e12 .0) (e12 .1) r11 in
+        let r13 = reached-more ks q s t 12 (omega arith) k (e13 .0) (e13 .1) r12 in
+        let r14 = reached-more ks q s t 13 (omega arith) k (e14 .0) (e14 .1) r13 in
+        let r15 = reached-more ks q s t 14 (omega arith) k (e15 .0) (e15 .1) r14 in
+        let r16 = reached-more ks q s t 15 (omega arith) k (e16 .0) (e16 .1) r15 in
+        (r16 .queue, r16 .state ∙ ap (λ (y : List ℕ). roundsFrom f t y s 16) (sym (r16 .queue)))
 
-  -- the next word of the queue w to v, and its round from r to x
-  abbrev pub Next : List ℕ → ℕ → List ℕ → List ℕ → List ℕ → List ℕ → Type 0
-  Next ks i w r v x = (v ≡ set w i (queueWord f i w)) × (x ≡ round f (getD ks i 0) (getD v i 0) r)
+  -- ---- the first words of the queue, those of the block b
 
-  pub sixteen-next-rounds : {s1 s2 s3 s4 s5 s6 s7 s8 s9 s10 s11 s12 s13 s14 s15 s16 q1 q2 q3 q4 q5 q6 q7 q8 q9 q10 q11 q12 q13 q14 q15 q16 : List ℕ}
-      (ks q s : List ℕ) (t : ℕ) → ks ≡ take 16 (drop t (f .constants))
-      → Next ks 0 q s q1 s1
-      → Next ks 1 q1 s1 q2 s2
-      → Next ks 2 q2 s2 q3 s3
-      → Next ks 3 q3 s3 q4 s4
-      → Next ks 4 q4 s4 q5 s5
-      → Next ks 5 q5 s5 q6 s6
-      → Next ks 6 q6 s6 q7 s7
-      → Next ks 7 q7 s7 q8 s8
-      → Next ks 8 q8 s8 q9 s9
-      → Next ks 9 q9 s9 q10 s10
-      → Next ks 10 q10 s10 q11 s11
-      → Next ks 11 q11 s11 q12 s12
-      → Next ks 12 q12 s12 q13 s13
-      → Next ks 13 q13 s13 q14 s14
-      → Next ks 14 q14 s14 q15 s15
-      → Next ks 15 q15 s15 q16 s16
-      → (q16 ≡ advanced f 16 q) × (s16 ≡ roundsFrom f t q16 s 16)
-  sixteen-next-rounds ks q s t k e1 e2 e3 e4 e5 e6 e7 e8 e9 e10 e11 e12 e13 e14 e15 e16 =
-      let r0 = reached-none t q s in
-      let r1 = reached-more ks q s t 0 (omega arith) k (e1 .0) (e1 .1) r0 in
-      let r2 = reached-more ks q s t 1 (omega arith) k (e2 .0) (e2 .1) r1 in
-      let r3 = reached-more ks q s t 2 (omega arith) k (e3 .0) (e3 .1) r2 in
-      let r4 = reached-more ks q s t 3 (omega arith) k (e4 .0) (e4 .1) r3 in
-      let r5 = reached-more ks q s t 4 (omega arith) k (e5 .0) (e5 .1) r4 in
-      let r6 = reached-more ks q s t 5 (omega arith) k (e6 .0) (e6 .1) r5 in
-      let r7 = reached-more ks q s t 6 (omega arith) k (e7 .0) (e7 .1) r6 in
-      let r8 = reached-more ks q s t 7 (omega arith) k (e8 .0) (e8 .1) r7 in
-      let r9 = reached-more ks q s t 8 (omega arith) k (e9 .0) (e9 .1) r8 in
-      let r10 = reached-more ks q s t 9 (omega arith) k (e10 .0) (e10 .1) r9 in
-      let r11 = reached-more ks q s t 10 (omega arith) k (e11 .0) (e11 .1) r10 in
-      let r12 = reached-more ks q s t 11 (omega arith) k (e12 .0) (e12 .1) r11 in
-      let r13 = reached-more ks q s t 12 (omega arith) k (e13 .0) (e13 .1) r12 in
-      let r14 = reached-more ks q s t 13 (omega arith) k (e14 .0) (e14 .1) r13 in
-      let r15 = reached-more ks q s t 14 (omega arith) k (e15 .0) (e15 .1) r14 in
-      let r16 = reached-more ks q s t 15 (omega arith) k (e16 .0) (e16 .1) r15 in
-      (r16 .queue, r16 .state ∙ ap (λ (y : List ℕ). roundsFrom f t y s 16) (sym (r16 .queue)))
+  block-words : (b q : List ℕ) (n : ℕ) → n ≤ length q → take n (filled (λ i _. wordAt f b i) n q) ≡ wordsOf f n b
+  unfolding filled wordsOf
+  block-words b q zero h = refl
+  block-words b q (suc n) h =
+      let l = length-filled (λ i _. wordAt f b i) n q in
+      take-suc-set (filled (λ i _. wordAt f b i) n q) n (wordAt f b n) (omega arith)
+      ∙ ap (λ (x : List ℕ). x ++ (wordAt f b n ∷ [])) (block-words b q n (omega arith))
+
+  pub filled-block : (b q : List ℕ) → length q ≡ 16 → filled (λ i _. wordAt f b i) 16 q ≡ wordsOf f 16 b
+  filled-block b q h =
+      store-all (λ n. wordsOf f n b) (filled (λ i _. wordAt f b i) 16 q) 16 16 (length-filled (λ i _. wordAt f b i) 16 q ∙ h) refl
+      (block-words b q 16 (omega arith))
 
   -- ---- the loop over the groups, where t is the first round of the last one: its words, and the working variables after it
 

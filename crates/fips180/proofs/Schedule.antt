@@ -4,12 +4,12 @@ use mathlib.Core.Path.{_≡_, refl, sym, ap, _∙_}
 use mathlib.Core.List.{List, [], _∷_, _++_}
 use native.Mathlib.Nat.{add-zero, zero-add}
 use native.Mathlib.Omega.{arith}
-use lib.ListN.{length, getD, set, take, drop, length-append, List·getD-append}
+use lib.ListN.{length, getD, take, drop, length-append, List·getD-append}
 use lib.Seq.{getD-at}
 use Rattle.fips180.specs.Family.{Family, smallSigma0, smallSigma1}
 use Rattle.fips180.specs.Padding.{fromBig, wordAt, wordsOf}
 use Rattle.fips180.specs.Hash.{plus, nextWord, withNext, schedule}
-use Rattle.laws.proofs.Lists.{run, take-run, store-next}
+use Rattle.laws.proofs.Lists.{run, take-run}
 
 module _ (f : Family) where
   -- word j of a block, where v is its first byte and vs are the k others, as code reads them
@@ -20,11 +20,6 @@ module _ (f : Family) where
       let at : ℕ = j * f .wordBytes in
       (λ i. fromBig ((p ∙ ap (λ (n : ℕ). getD b n 0) (sym (add-zero at)) ∙ sym (zero-add (getD b (at + 0) 0))) i) (q i))
       ∙ ap (fromBig 0) (sym (take-run b at (suc k) (omega arith)) ∙ ap (λ (n : ℕ). take n (drop at b)) (sym e))
-
-  -- one more word of a block, where a loop stores them one by one
-  pub words-next : {v : ℕ} (b w : List ℕ) (j : ℕ) → j < length w → take j w ≡ wordsOf f j b → v ≡ wordAt f b j → take (j + 1) (set w j v) ≡ wordsOf f (j + 1) b
-  unfolding wordsOf
-  words-next {v = v} b w j h e g = store-next (λ n. wordsOf f n b) w j v h e (ap (λ (x : ℕ). wordsOf f j b ++ (x ∷ [])) (sym g))
 
   pub length-wordsOf : (k : ℕ) (b : List ℕ) → length (wordsOf f k b) ≡ k
   unfolding wordsOf

@@ -18,20 +18,18 @@ fn by_each(
     vector::of_message(t2, Hash::Sha512, name, message, sha512)
 }
 
-fn empty(tally: Tally) -> Tally {
-    by_each(
+// Messages that each hash pads to one block.
+fn one_block(tally: Tally) -> Tally {
+    let t1 = by_each(
         tally,
         b"the empty message",
         b"",
         b"e3b0c44298fc1c149afbf4c8996fb92427ae41e4649b934ca495991b7852b855",
         b"38b060a751ac96384cd9327eb1b1e36a21fdb71114be07434c0cc7bf63f6e1da274edebfe76f65fbd51ad2f14898b95b",
         b"cf83e1357eefb8bdf1542850d66d8007d620e4050b5715dc83f4a921d36ce9ce47d0d13c5d85f2b0ff8318d2877eec2f63b931bd47417a81a538327af927da3e",
-    )
-}
-
-fn abc(tally: Tally) -> Tally {
+    );
     by_each(
-        tally,
+        t1,
         b"abc",
         b"abc",
         b"ba7816bf8f01cfea414140de5dae2223b00361a396177a9cb410ff61f20015ad",
@@ -40,20 +38,18 @@ fn abc(tally: Tally) -> Tally {
     )
 }
 
-fn bits_448(tally: Tally) -> Tally {
-    by_each(
+// Messages that fill a block but for the length: SHA-256 pads the first to two blocks, SHA-384 and SHA-512 the second.
+fn two_blocks(tally: Tally) -> Tally {
+    let t1 = by_each(
         tally,
         b"448 bits",
         b"abcdbcdecdefdefgefghfghighijhijkijkljklmklmnlmnomnopnopq",
         b"248d6a61d20638b8e5c026930c3e6039a33ce45964ff2167f6ecedd419db06c1",
         b"3391fdddfc8dc7393707a65b1b4709397cf8b1d162af05abfe8f450de5f36bc6b0455a8520bc4e6f5fe95b1fe3c8452b",
         b"204a8fc6dda82f0a0ced7beb8e08a41657c16ef468b228a8279be331a703c33596fd15c13b1b07f9aa1d3bea57789ca031ad85c7a71dd70354ec631238ca3445",
-    )
-}
-
-fn bits_896(tally: Tally) -> Tally {
+    );
     by_each(
-        tally,
+        t1,
         b"896 bits",
         b"abcdefghbcdefghicdefghijdefghijkefghijklfghijklmghijklmnhijklmnoijklmnopjklmnopqklmnopqrlmnopqrsmnopqrstnopqrstu",
         b"cf5b16a778af8380036ce59e7b0492370b249b11e8f07a51afac45037afee9d1",
@@ -82,9 +78,7 @@ fn million(tally: Tally) -> Tally {
 }
 
 pub(crate) fn run(tally: Tally) -> Tally {
-    let t1 = empty(tally);
-    let t2 = abc(t1);
-    let t3 = bits_448(t2);
-    let t4 = bits_896(t3);
-    million(t4)
+    let t1 = one_block(tally);
+    let t2 = two_blocks(t1);
+    million(t2)
 }

@@ -5,15 +5,19 @@ use mathlib.Core.Bool.{false, not}
 use mathlib.Core.List.{List}
 use native.Mathlib.Omega.{arith}
 use lib.Dec.{eqb}
-use lib.ListN.{length}
+use lib.ListN.{length, take}
 use borrow.Author.Tests.{lt-ltb, le-ltb, ltb-false, ne-eqb, eq-eqb, leb-false}
+use Rattle.refusal.specs.declared.Verdict.{Verdict}
+use Rattle.refusal.specs.declared.Verdict.the-variants.{Accepted}
+use Rattle.refusal.specs.Refusals.{numberOf}
 use Rattle.refusal.specs.Rules.{_when_else_}
-use Rattle.refusal.proofs.Laws.{when-yes, when-no, when-accepted, accepted-yes, accepted-no}
+use Rattle.refusal.proofs.Laws.{when-yes, when-no, when-accepted, accepted-yes, accepted-no, says-yes}
 use Rattle.laws.proofs.Tests.{and-right, equal-no, no-equal}
-use Rattle.octets.specs.Octets.{sameBytes}
+use Rattle.octets.specs.Octets.{sameBytes, padded, pasted}
+use Rattle.octets.proofs.Buffers.{pasted-whole}
 use Rattle.hash.specs.Types.{hashLength, hashOf, badHashType}
 use Rattle.hash.specs.Calls.{tooLong, hashNumber, hashMatches}
-use Rattle.hash.proofs.Types.{length-bound}
+use Rattle.hash.proofs.Types.{length-bound, hash-long, hash-cut}
 
 module _ (t n k : ℕ) where
   pub number-type : 2 < t → hashNumber t n k ≡ 12
@@ -42,13 +46,6 @@ module _ (t n k : ℕ) where
       let c = when-accepted 2 (tooLong t n) 0 (omega arith) (b .1) in
       record { known = ltb-false 2 t (a .0); fits = no-equal k (hashLength t) (b .0); short = c .0 }
 
-  pub number-bound : hashNumber t n k ≡ 0 → k ≤ 64
-  number-bound e = omega (arith, number-accepts e .fits, length-bound t)
-
-  -- the type and the message are accepted with a buffer of the type's own length too
-  pub number-own : hashNumber t n k ≡ 0 → hashNumber t n (hashLength t) ≡ 0
-  number-own e = ap (hashNumber t n) (sym (number-accepts e .fits)) ∙ e
-
 -- a message that SHA-256 takes
 pub short-is : (t n : ℕ) → t ≡ 0 → tooLong t n ≡ false → n < 2 ^ 61
 short-is t n z e = leb-false (2 ^ 61) n (sym (and-right _ (eq-eqb t 0 z)) ∙ e)
@@ -57,6 +54,20 @@ module _ (t : ℕ) (m b : List ℕ) where
   abbrev number : ℕ
   number = hashNumber t (length m) (length b)
 
+  -- what is known of a call that was accepted
+  pub record HashAccepted : Type 0 where
+    pub none : number ≡ 0
+    pub fits : length b ≡ hashLength t
+    pub bound : length b ≤ 64
+    -- the type and the message are accepted with a buffer of the type's own length too
+    pub own : hashNumber t (length m) (hashLength t) ≡ 0
+
+  pub hash-accepted : {v : Verdict} → numberOf v ≡ number → v ≡ Accepted → HashAccepted
+  hash-accepted e f =
+      let z = says-yes e f in
+      let k = number-accepts t (length m) (length b) z .fits in
+      record { none = z; fits = k; bound = omega (arith, k, length-bound t); own = ap (hashNumber t (length m)) (sym k) ∙ z }
+
   pub matches-refused : 0 < number → false ≡ hashMatches t m b
   unfolding hashMatches
   matches-refused h = sym (accepted-no (sameBytes (hashOf t m) b) false h)
@@ -64,3 +75,14 @@ module _ (t : ℕ) (m b : List ℕ) where
   pub matches-accepted : number ≡ 0 → sameBytes (hashOf t m) b ≡ hashMatches t m b
   unfolding hashMatches
   matches-accepted h = sym (accepted-yes (sameBytes (hashOf t m) b) false h)
+
+  -- an accepted call's hash, from the 64 bytes that it stands at the front of: it fills the buffer, and is what the buffer is compared with
+  module _ (known : HashAccepted) {r : List ℕ} (e : r ≡ padded 64 (hashOf t m)) where
+    cut : take (length b) r ≡ hashOf t m
+    cut = hash-cut t m (length b) (known .fits) e
+
+    pub hash-filled : pasted b 0 (take (length b) r) ≡ hashOf t m
+    hash-filled = pasted-whole b _ (ap length cut ∙ hash-long t m ∙ sym (known .fits)) ∙ cut
+
+    pub hash-compared : sameBytes (take (length b) r) b ≡ hashMatches t m b
+    hash-compared = ap (λ (h : List ℕ). sameBytes h b) cut ∙ matches-accepted (known .none)

@@ -30,6 +30,13 @@ pub or-no : (a b : Bool) → (a || b) ≡ false → (a ≡ false) × (b ≡ fals
 or-no true b e = absurd (true≢false e)
 or-no false b e = (refl, e)
 
+-- a test that can't hold, before another, and one that does
+pub or-left : {a : Bool} (b : Bool) → a ≡ false → (a || b) ≡ b
+or-left b e = rw e
+
+pub or-yes : {a : Bool} (b : Bool) → a ≡ true → (a || b) ≡ true
+or-yes b e = rw e
+
 -- a second test that matters only where the first doesn't hold
 pub or-same : (a b c : Bool) → (a ≡ false → b ≡ c) → (a || b) ≡ (a || c)
 or-same true b c h = refl

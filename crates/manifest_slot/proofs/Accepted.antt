@@ -1,7 +1,7 @@
 -- What the number 0 of a call says of its slot, its buffers and what it was given.
 use Prim.Native.Nat.{ℕ, _≤_}
 use mathlib.Core.Path.{_≡_}
-use mathlib.Core.Bool.{Bool, false, not}
+use mathlib.Core.Bool.{Bool, false}
 use mathlib.Core.List.{List}
 use native.Mathlib.Omega.{arith}
 use lib.ListN.{length}
@@ -9,16 +9,13 @@ use lib.Dec.{eqb}
 use borrow.Author.Tests.{eq-eqb}
 use Rattle.refusal.specs.Rules.{_when_else_}
 use Rattle.refusal.proofs.Laws.{when-accepted, first-accepted}
-use Rattle.manifest_slot.specs.declared.Transfer.{Transfer}
-use Rattle.manifest_slot.specs.Slot.{bufferLength, shortest, outside, wrongBuffers, unsound, tooLong, isIdle, incomplete, receivedOf, Held}
-use Rattle.manifest_slot.specs.Calls.{openNumber, lentNumber, prepareRule, prepareNumber, updateRule, updateNumber, badHeader, stale, pendingRule, signatureRule, activateRule, activateNumber}
+use Rattle.slot_state.specs.State.{bufferLength, shortest, outside, wrongBuffers, incomplete, receivedOf}
+use Rattle.slot_state.specs.Rules.{prepareRule, updateRule}
+use Rattle.slot_state.proofs.States.{right-buffers, active-bound, transfer-bounds}
+use Rattle.manifest_slot.specs.Slot.{unsound, Held}
+use Rattle.manifest_slot.specs.Calls.{lentNumber, prepareNumber, updateNumber, badHeader, stale, pendingRule, signatureRule, activateRule, activateNumber}
 use Rattle.manifest_slot.specs.Sequences.{Sound}
-use Rattle.manifest_slot.proofs.States.{right-buffers, sound-parts, active-bound, transfer-bounds}
-
-pub open-accepted : (pending active : List ℕ) → openNumber pending active ≡ 0
-    → (length pending ≡ bufferLength) × (length active ≡ bufferLength)
-unfolding openNumber
-open-accepted pending active e = right-buffers pending active (when-accepted 3 (wrongBuffers pending active) 0 (omega arith) e .0)
+use Rattle.manifest_slot.proofs.States.{sound-parts}
 
 module _ (h : Held) where
   pub lent-accepted : lentNumber h ≡ 0 → Sound h
@@ -65,10 +62,3 @@ module _ (h : Held) where
       let q = when-accepted 6 (incomplete (h .slot .transfer)) headed (omega arith) own in
       let r = when-accepted 8 (badHeader (h .slot) (h .pending)) newer (omega arith) (q .1) in
       (p .0, q .0, when-accepted 9 (stale (h .slot) (h .pending)) 0 (omega arith) (r .1) .0)
-
--- a payload that update's own rules take is expected, and isn't longer than what is still to come
-pub payload-accepted : (t : Transfer) (n : ℕ) → updateRule t n ≡ 0 → (tooLong t n ≡ false) × (isIdle t ≡ false)
-unfolding updateRule
-payload-accepted t n e =
-    let p = when-accepted 5 (tooLong t n) (6 when isIdle t else 0) (omega arith) e in
-    (p .0, when-accepted 6 (isIdle t) 0 (omega arith) (p .1) .0)

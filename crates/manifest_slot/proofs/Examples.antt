@@ -5,11 +5,13 @@ use mathlib.Core.Bool.{true, false}
 use mathlib.Core.List.{List, [], _∷_, _++_}
 use Rattle.refusal.proofs.Laws.{accepted-yes}
 use Rattle.octets.specs.Octets.{zeros}
+use Rattle.slot_state.specs.State.{bufferLength}
+use Rattle.slot_state.specs.Rules.{prepareRule, updateRule}
 use Rattle.manifest_slot.specs.declared.Role.{Role}
 use Rattle.manifest_slot.specs.declared.Role
 use Rattle.manifest_header.specs.Header.{headerUnfit}
-use Rattle.manifest_slot.specs.Slot.{bufferLength, unsound, fresh, Held, held}
-use Rattle.manifest_slot.specs.Calls.{openStep, lentNumber, prepareRule, prepareNumber, prepareStep, updateRule, updateNumber, updateStep, pendingRule, activateRule, activateNumber, activateStep, readStep}
+use Rattle.manifest_slot.specs.Slot.{unsound, fresh, Held, held}
+use Rattle.manifest_slot.specs.Calls.{openStep, lentNumber, prepareNumber, prepareStep, updateNumber, updateStep, pendingRule, activateRule, activateNumber, activateStep, readStep}
 use Rattle.manifest_slot.specs.Sequences.{Call, prepare, update, activate, step, afterAll}
 
 -- 13 bytes, magic number 0x1234, id 7, and a signature of one byte

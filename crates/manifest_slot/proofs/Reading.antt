@@ -8,13 +8,15 @@ use Rattle.refusal.specs.Rules.{accepted_then_else_}
 use Rattle.refusal.proofs.Laws.{accepted-yes}
 use Rattle.octets.specs.Octets.{zeros}
 use Rattle.octets.proofs.Buffers.{length-zeros, take-pasted}
+use Rattle.slot_state.specs.State.{bufferLength, totalOf, receivedOf}
+use Rattle.slot_state.proofs.Accepted.{payload-accepted}
 use Rattle.manifest_slot.specs.declared.Role.{Role}
 use Rattle.manifest_slot.specs.declared.Role
-use Rattle.manifest_slot.specs.Slot.{bufferLength, unsound, fresh, totalOf, receivedOf, Held, held}
+use Rattle.manifest_slot.specs.Slot.{unsound, fresh, Held, held}
 use Rattle.manifest_slot.specs.Calls.{openStep, manifestOf, readStep}
 use Rattle.manifest_slot.specs.Sequences.{Call, prepare, update, activate, step, afterAll, Brought, brings, broughtBy, Sound}
 use Rattle.manifest_slot.proofs.States.{advanced-received}
-use Rattle.manifest_slot.proofs.Accepted.{sound-accepted, update-accepted, payload-accepted}
+use Rattle.manifest_slot.proofs.Accepted.{sound-accepted, update-accepted}
 use Rattle.manifest_slot.proofs.Steps.{numberFor, does, step-both}
 use Rattle.manifest_slot.proofs.Stays.{update-fits, activate-whole, activate-fills, accepted-sound}
 

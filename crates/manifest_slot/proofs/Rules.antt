@@ -5,14 +5,12 @@ use native.Mathlib.Omega.{arith}
 use lib.ListN.{length}
 use lib.Dec.{eqb}
 use mathlib.Core.List.{List}
-use Rattle.refusal.specs.declared.Verdict.{Verdict}
-use Rattle.refusal.specs.Refusals.{numberOf}
-use Rattle.refusal.specs.Steps.{outcome}
 use Rattle.refusal.specs.Rules.{_when_else_, first_then_}
 use Rattle.refusal.proofs.Laws.{when-first, first-first}
-use Rattle.manifest_slot.specs.declared.Answer.{Answer}
-use Rattle.manifest_slot.specs.Slot.{wrongBuffers, unsound, Held}
-use Rattle.manifest_slot.specs.Calls.{answered, refusedAnswer, openNumber, lentNumber, updateRule, updateNumber}
+use Rattle.slot_state.specs.State.{wrongBuffers}
+use Rattle.slot_state.specs.Rules.{openNumber, updateRule}
+use Rattle.manifest_slot.specs.Slot.{unsound, Held}
+use Rattle.manifest_slot.specs.Calls.{lentNumber, updateNumber}
 
 pub lent-chain : (h : Held) → (first openNumber (h .pending) (h .active) then 4 when unsound (h .slot) else 0) ≡ lentNumber h
 unfolding openNumber lentNumber
@@ -26,7 +24,3 @@ update-chain payload h =
     let empty : ℕ = 2 when eqb (length payload) 0 else 0 in
     let own : ℕ = updateRule (h .slot .transfer) (length payload) in
     first-first (lentNumber h) empty own ∙ ap (λ (n : ℕ). first lentNumber h then n) (when-first 2 (eqb (length payload) 0) 0 own (omega arith))
-
--- a refusal's answer, with the buffers as they were
-pub refused-is : {r : Answer} (h : Held) {v : Verdict} → r ≡ refusedAnswer (h .slot) v → answered r (h .pending) (h .active) ≡ outcome (numberOf v) h
-refused-is h e = ap (λ (r : Answer). answered r (h .pending) (h .active)) e

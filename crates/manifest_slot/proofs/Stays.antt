@@ -13,11 +13,14 @@ use Rattle.laws.proofs.Tests.{and-no}
 use Rattle.octets.specs.Octets.{padded}
 use Rattle.octets.proofs.Buffers.{length-padded, length-pasted, replaced-fits}
 use Rattle.manifest_header.specs.Header.{versionId}
-use Rattle.manifest_slot.specs.Slot.{bufferLength, shortest, totalOf, receivedOf, advanced, Held}
+use Rattle.slot_state.specs.State.{bufferLength, shortest, totalOf, receivedOf}
+use Rattle.slot_state.proofs.States.{inside, inside-active, transfer-bounds, complete}
+use Rattle.slot_state.proofs.Accepted.{payload-accepted}
+use Rattle.manifest_slot.specs.Slot.{advanced, Held}
 use Rattle.manifest_slot.specs.Calls.{updateNumber, activateNumber, activated}
 use Rattle.manifest_slot.specs.Sequences.{Call, prepare, update, activate, step, Sound}
-use Rattle.manifest_slot.proofs.States.{inside, inside-active, sound-parts, parts-sound, transfer-bounds, advanced-sound, advanced-received, complete}
-use Rattle.manifest_slot.proofs.Accepted.{lent-accepted, prepare-accepted, update-accepted, activate-accepted, payload-accepted}
+use Rattle.manifest_slot.proofs.States.{sound-parts, parts-sound, advanced-sound, advanced-received}
+use Rattle.manifest_slot.proofs.Accepted.{lent-accepted, prepare-accepted, update-accepted, activate-accepted}
 use Rattle.manifest_slot.proofs.Steps.{numberFor, does, step-number, step-done, step-alone}
 
 -- ---- a sound slot stays sound

@@ -1,5 +1,6 @@
 -- Document 01, "Manifest slot": each call as one step of a slot with its two buffers, for every slot and every buffer. The functions' contracts cite these
--- steps, and so do the claims about lists of calls, the commands and the C interface.
+-- steps, and so do the claims about lists of calls, the commands and the C interface. Rules that ask for one part of the state only (openNumber, prepareRule,
+-- updateRule) stand in slot_state/specs/Rules.antt.
 use Prim.Native.Nat.{ℕ}
 use mathlib.Core.Bool.{Bool, not, _&&_, _||_}
 use mathlib.Core.List.{List, []}
@@ -11,15 +12,16 @@ use Rattle.refusal.specs.Rules.{_when_else_, first_then_}
 use Rattle.refusal.specs.Steps.{Outcome, outcome, decided}
 use Rattle.octets.specs.Octets.{zeros, pasted, replacedBy}
 use Rattle.manifest_header.specs.Header.{magicNumber, versionId, headerUnfit}
-use Rattle.manifest_slot.specs.declared.Transfer.{Transfer}
-use Rattle.manifest_slot.specs.declared.Transfer.the-variants.{Idle, Receiving}
+use Rattle.slot_state.specs.declared.Transfer.the-variants.{Idle, Receiving}
+use Rattle.slot_state.specs.State.{bufferLength, wrongBuffers, totalOf, receivedOf, incomplete}
+use Rattle.slot_state.specs.Rules.{openNumber, prepareRule, updateRule}
 use Rattle.manifest_slot.specs.declared.Slot.{Slot}
 use Rattle.manifest_slot.specs.declared.Answer.{Answer}
 use Rattle.manifest_slot.specs.declared.Opening.{Opening}
 use Rattle.manifest_slot.specs.declared.Opening.the-variants.{Opened, Refused}
 use Rattle.manifest_slot.specs.declared.Role.{Role}
 use Rattle.manifest_slot.specs.declared.Role
-use Rattle.manifest_slot.specs.Slot.{bufferLength, shortest, outside, wrongBuffers, unsound, fresh, totalOf, receivedOf, isIdle, incomplete, tooLong, advanced, transferring, Held, held}
+use Rattle.manifest_slot.specs.Slot.{unsound, fresh, advanced, transferring, Held, held}
 
 -- ---- what the functions' answers say, with the buffers at exit
 
@@ -37,11 +39,6 @@ opened (Refused why) before pending active = outcome (refusalNumber why) (held b
 
 -- ---- opening: "zeroes both buffers"
 
-unfoldable pub openNumber : List ℕ → List ℕ → ℕ
-openNumber pending active =
-    3 when wrongBuffers pending active else
-    0
-
 unfoldable pub openStep : ℕ → Held → Outcome Held
 openStep magic h = decided (openNumber (h .pending) (h .active)) h (held (fresh magic) (zeros bufferLength) (zeros bufferLength))
 
@@ -54,11 +51,6 @@ lentNumber h =
     0
 
 -- ---- "Prepare (total): outside 13 to 4,096 is 5. Else receiving, none received; a transfer under way is dropped; both buffers stay."
-
-unfoldable pub prepareRule : ℕ → ℕ
-prepareRule total =
-    5 when outside shortest bufferLength total else
-    0
 
 abbrev pub prepared : ℕ → Held → Held
 prepared total h = held (transferring (h .slot) (Receiving total 0)) (h .pending) (h .active)
@@ -76,12 +68,6 @@ prepareStep total h = decided (prepareNumber total h) h (prepared total h)
 
 -- ---- "Update (payload): empty is 2, idle or not; any other payload while idle is 6; while receiving, a payload longer than what is still to
 -- come is 5. Else the bytes go after those received; nothing else moves."
-
-unfoldable pub updateRule : Transfer → ℕ → ℕ
-updateRule t n =
-    5 when tooLong t n else
-    6 when isIdle t else
-    0
 
 abbrev pub updated : List ℕ → Held → Held
 updated payload h =

@@ -6,9 +6,10 @@ use mathlib.Core.List.{List, [], _∷_, _++_}
 use lib.ListN.{length}
 use Rattle.refusal.specs.Rules.{accepted_then_else_}
 use Rattle.refusal.specs.Steps.{Outcome, Keeps}
+use Rattle.slot_state.specs.State.{bufferLength}
 use Rattle.manifest_slot.specs.declared.Role.{Role}
 use Rattle.manifest_slot.specs.declared.Role
-use Rattle.manifest_slot.specs.Slot.{bufferLength, unsound, Held}
+use Rattle.manifest_slot.specs.Slot.{unsound, Held}
 use Rattle.manifest_slot.specs.Calls.{openStep, prepareStep, updateStep, activateStep, readStep}
 
 -- a call, with what it is given besides

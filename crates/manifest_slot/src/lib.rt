@@ -10,20 +10,10 @@ mod update;
 pub use manifest_header::VersionId;
 use refusal::Refusal;
 use refusal::Verdict;
+pub use slot_state::Active;
+pub use slot_state::Transfer;
 ghost use mathlib.Core.Path.{_≡_};
 ghost use Rattle.manifest_slot.specs.Calls.{refusedAnswer};
-
-// The active manifest: length 0 and id 0 where there is none.
-pub struct Active {
-    pub length: usize,
-    pub id: VersionId,
-}
-
-// The manifest that is arriving.
-pub enum Transfer {
-    Idle,
-    Receiving { total: usize, received: usize },
-}
 
 // The state of a slot.
 pub struct Slot {

@@ -2,24 +2,13 @@
 use crate::Answer;
 use crate::Slot;
 use crate::Transfer;
-use crate::sound::outside;
-use refusal::Refusal;
 use refusal::Verdict;
+use slot_state::total_verdict;
 ghost use mathlib.Core.Path.{_≡_};
 ghost use mathlib.Core.List.{List};
 ghost use Prim.Native.Nat.{ℕ};
-ghost use Rattle.refusal.specs.Refusals.{numberOf};
 ghost use Rattle.manifest_slot.specs.Slot.{held};
-ghost use Rattle.manifest_slot.specs.Calls.{prepareRule, prepareLent, prepareStep, answered};
-
-fn total_verdict(total: u64) -> Verdict
-    ensures { λ r. ⌜ numberOf r ≡ prepareRule total ⌝ }
-{
-    if outside(Slot::SHORTEST, Slot::BUFFER_LEN, total as usize) {
-        return Verdict::Refused(Refusal::OutOfRange);
-    }
-    Verdict::Accepted
-}
+ghost use Rattle.manifest_slot.specs.Calls.{prepareLent, prepareStep, answered};
 
 impl Slot {
     // A manifest of total bytes is to arrive; a transfer under way is dropped.

@@ -1,42 +1,15 @@
 // The next bytes of a transfer.
 use crate::Answer;
 use crate::Slot;
-use crate::Transfer;
-use refusal::Refusal;
+use crate::progress::advanced;
 use refusal::Verdict;
 use refusal::first;
+use slot_state::length_verdict;
 ghost use mathlib.Core.Path.{_≡_};
 ghost use mathlib.Core.List.{List};
 ghost use Prim.Native.Nat.{ℕ};
-ghost use lib.Dec.{eqb};
-ghost use Rattle.refusal.specs.Refusals.{numberOf};
-ghost use Rattle.refusal.specs.Rules.{_when_else_};
 ghost use Rattle.manifest_slot.specs.Slot.{held};
-ghost use Rattle.manifest_slot.specs.Calls.{updateRule, updateLent, updateStep, answered};
-
-fn length_verdict(n: usize) -> Verdict
-    ensures { λ r. ⌜ numberOf r ≡ (2 when eqb n 0 else 0) ⌝ }
-{
-    if n == 0 {
-        return Verdict::Refused(Refusal::BadLength);
-    }
-    Verdict::Accepted
-}
-
-impl Transfer {
-    // Whether n bytes may be the next.
-    fn payload_verdict(self, n: usize) -> Verdict
-        ensures { λ r. ⌜ numberOf r ≡ updateRule self n ⌝ }
-    {
-        if self.too_long(n) {
-            return Verdict::Refused(Refusal::OutOfRange);
-        }
-        if self.is_idle() {
-            return Verdict::Refused(Refusal::OutOfStep);
-        }
-        Verdict::Accepted
-    }
-}
+ghost use Rattle.manifest_slot.specs.Calls.{updateLent, updateStep, answered};
 
 impl Slot {
     // The payload goes after the bytes received.
@@ -60,7 +33,7 @@ impl Slot {
         let own = transfer.payload_verdict(payload.len());
         let received = transfer.received();
         // The slot with the payload counted, which only an accepted update answers.
-        let next = self.transferring(transfer.advanced(payload.len()));
+        let next = self.transferring(advanced(transfer, payload.len()));
         if let Verdict::Refused(_) = own {
             return self.refused(own);
         }

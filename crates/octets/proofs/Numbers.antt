@@ -5,7 +5,7 @@ use mathlib.Core.List.{List, [], _∷_, _++_}
 use native.Mathlib.Omega.{arith}
 use native.Mathlib.Nat.{zero-add, suc-add, add-assoc, mul-zero, mul-assoc, pow-zero, pow-suc, pow-succ'}
 use lib.Arith.{lt-one}
-use lib.Seq.{getD-append-add, drop-cons}
+use lib.Seq.{getD-append-add, getD-drop, getD-take, drop-cons}
 use lib.ListN.{length, getD, take, drop, List·getD-eq-default}
 use Rattle.octets.specs.Octets.{Bytes, numberAt, bytesOf}
 
@@ -45,6 +45,20 @@ number-append (suc w) p b i =
     let next : numberAt w (p ++ b) (length p + i + 1) ≡ numberAt w b (i + 1) =
     ap (numberAt w (p ++ b)) (add-assoc (length p) i 1) ∙ number-append w p b (i + 1) in
     λ j. getD-append-add p b i 0 j + 256 * next j
+
+-- a number behind the first s bytes, and one among the first n
+pub number-drop : (w s : ℕ) (b : List ℕ) (i : ℕ) → numberAt w (drop s b) i ≡ numberAt w b (s + i)
+number-drop zero s b i = refl
+number-drop (suc w) s b i =
+    let next : numberAt w (drop s b) (i + 1) ≡ numberAt w b (s + i + 1) = number-drop w s b (i + 1) ∙ ap (numberAt w b) (sym (add-assoc s i 1)) in
+    λ j. getD-drop s b i 0 j + 256 * next j
+
+pub number-take : (w n : ℕ) (b : List ℕ) (i : ℕ) → i + w ≤ n → numberAt w (take n b) i ≡ numberAt w b i
+number-take zero n b i h = refl
+number-take (suc w) n b i h =
+    let here : i < n = omega arith in
+    let next : i + 1 + w ≤ n = omega arith in
+    λ j. getD-take n b i 0 here j + 256 * number-take w n b (i + 1) next j
 
 pub length-bytes : (w n : ℕ) → length (bytesOf w n) ≡ w
 length-bytes zero n = refl

@@ -6,7 +6,7 @@ use native.Mathlib.Omega.{arith}
 use Rattle.refusal.specs.declared.Refusal.{Refusal}
 use Rattle.refusal.specs.declared.Verdict.{Verdict}
 use Rattle.refusal.specs.declared.Verdict.the-variants.{Accepted, Refused}
-use Rattle.refusal.specs.Refusals.{numberOf}
+use Rattle.refusal.specs.Refusals.{refusalNumber, numberOf}
 use Rattle.refusal.specs.Rules.{first_then_, accepted_then_else_}
 use Rattle.refusal.specs.Steps.{Outcome, outcome, decided, within, Keeps, Reply, reply, refusedBy, continued, given}
 use Rattle.refusal.proofs.Laws.{accepted-no, first-yes, first-no, says-no, says-yes}
@@ -33,6 +33,14 @@ module _ {A : Type 0} where
   pub decided-accepted : {v : Verdict} {n : ℕ} {left : A} (before done : A) → numberOf v ≡ n → v ≡ Accepted → left ≡ done
       → outcome (numberOf v) left ≡ decided n before done
   decided-accepted before done e f is = (λ i. outcome (ap numberOf f i) (is i)) ∙ decided-yes before done (says-yes e f)
+
+  -- the same, where the refusal's number is told, or 0
+  pub told-refused : {v : Verdict} {why : Refusal} {n r : ℕ} (before done : A) → numberOf v ≡ n → v ≡ Refused why → r ≡ refusalNumber why
+      → outcome r before ≡ decided n before done
+  told-refused before done e f g = (λ i. outcome ((g ∙ ap numberOf (sym f)) i) before) ∙ decided-refused before done e f
+
+  pub told-accepted : {v : Verdict} {n : ℕ} {left : A} (before done : A) → numberOf v ≡ n → v ≡ Accepted → left ≡ done → outcome 0 left ≡ decided n before done
+  told-accepted before done e f is = (λ i. outcome 0 (is i)) ∙ decided-yes before done (says-yes e f)
 
   -- the first rules refuse, or accept and others decide
   pub first-refused : {v : Verdict} {n : ℕ} {why : Refusal} (m : ℕ) (before done : A) → numberOf v ≡ n → v ≡ Refused why

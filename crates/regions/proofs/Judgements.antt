@@ -7,8 +7,7 @@ use mathlib.Core.Logic.{⊎-elim}
 use native.Mathlib.Omega.{arith}
 use native.Mathlib.Nat.{eq-or-lt-of-le}
 use borrow.Author.Tests.{ltb-true, ltb-false}
-use Rattle.laws.proofs.Tests.{or-no}
-use Rattle.element_parts.proofs.Verdicts.{or-left}
+use Rattle.laws.proofs.Tests.{or-no, or-left}
 use Rattle.regions.specs.declared.region.Region.{Region}
 use Rattle.regions.specs.Region.{regionLength, regionAt, RunsOfSound, anyRegion, startAboveEnd, endIsLast}
 use Rattle.regions.specs.Meaning.{EndIsLastMeans}

@@ -1,5 +1,5 @@
 -- A region: what its writer wrote, its reader reads back; what its reader accepts, its writer writes again.
-use Prim.Native.Nat.{ℕ, zero, suc, _<_, _≤_, _+_, _*_}
+use Prim.Native.Nat.{ℕ, _≤_, _+_, _*_}
 use mathlib.Core.Path.{_≡_, refl, sym, ap, _∙_}
 use mathlib.Core.Bool.{Bool, false, not, _||_}
 use mathlib.Core.List.{List, [], _++_, append-nil}
@@ -7,10 +7,10 @@ use native.Mathlib.Omega.{arith}
 use native.Mathlib.Nat.{add-assoc, add-zero}
 use lib.Dec.{eqb}
 use lib.ListN.{length, take, drop, length-drop}
-use lib.Seq.{take-add, take-all, drop-drop, getD-take, getD-drop}
+use lib.Seq.{take-add, take-all, drop-drop}
 use Rattle.laws.proofs.Tests.{any-no, no-any, equal-no, no-equal}
 use Rattle.octets.specs.Octets.{Bytes, numberAt, bytesOf}
-use Rattle.octets.proofs.Numbers.{number-append, read-written, written-read}
+use Rattle.octets.proofs.Numbers.{number-append, number-drop, number-take, read-written, written-read}
 use Rattle.refusal.specs.Steps.{outcome, reply}
 use Rattle.regions.specs.declared.region.Region.{Region}
 use Rattle.element_parts.specs.Parts.{readNumber, item}
@@ -18,19 +18,6 @@ use Rattle.regions.specs.Region.{regionLength, regionAt, Addresses, Judg
 use Rattle.element_parts.proofs.Verdicts.{read-yes, read-accepted, write-accepted, write-after, write-done}
 
 -- ---- a region in a list of bytes
-
-number-drop : (w s : ℕ) (b : List ℕ) (i : ℕ) → numberAt w (drop s b) i ≡ numberAt w b (s + i)
-number-drop zero s b i = refl
-number-drop (suc w) s b i =
-    let next : numberAt w (drop s b) (i + 1) ≡ numberAt w b (s + i + 1) = number-drop w s b (i + 1) ∙ ap (numberAt w b) (sym (add-assoc s i 1)) in
-    λ j. getD-drop s b i 0 j + 256 * next j
-
-number-take : (w n : ℕ) (b : List ℕ) (i : ℕ) → i + w ≤ n → numberAt w (take n b) i ≡ numberAt w b i
-number-take zero n b i h = refl
-number-take (suc w) n b i h =
-    let here : i < n = omega arith in
-    let next : i + 1 + w ≤ n = omega arith in
-    λ j. getD-take n b i 0 here j + 256 * number-take w n b (i + 1) next j
 
 -- region i of a run, read alone
 pub region-item : (l : List ℕ) (i : ℕ) → regionAt (item regionLength l i) 0 ≡ regionAt l (regionLength * i)

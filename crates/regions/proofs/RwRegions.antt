@@ -7,7 +7,7 @@ use native.Mathlib.Omega.{arith}
 use borrow.Author.Tests.{le-ltb, lt-ltb}
 use lib.Dec.{eqb}
 use lib.ListN.{length, getD}
-use Rattle.laws.proofs.Tests.{any-no, no-any, or-no, equal-no, no-equal}
+use Rattle.laws.proofs.Tests.{any-no, no-any, or-no, or-left, or-yes, equal-no, no-equal}
 use Rattle.octets.specs.Octets.{Bytes}
 use Rattle.refusal.specs.Steps.{outcome, reply}
 use Rattle.regions.specs.declared.region.Region.{Region}
@@ -15,7 +15,7 @@ use Rattle.regions.specs.declared.rw_region.RwRegion.{RwRegion}
 use Rattle.element_parts.specs.Parts.{readNumber, writeNumber}
 use Rattle.regions.specs.Region.{regionAt, Addresses, Judgement}
 use Rattle.regions.specs.RwRegion.{operationNumber, badOperation, rwRegionLength, RwFields, rwFieldsOf, rwRegionFields, rwRegionFaults, rwRegionNumber, rwFieldsMalformed, rwRegionBytes, rwRegionWriteStep}
-use Rattle.element_parts.proofs.Verdicts.{read-yes, read-accepted, or-left, or-yes, write-malformed, write-accepted, write-after, write-done}
+use Rattle.element_parts.proofs.Verdicts.{read-yes, read-accepted, write-malformed, write-accepted, write-after, write-done}
 use Rattle.element_parts.proofs.Heads.{four-and-rest}
 use Rattle.regions.proofs.Operations.{operation-small, operation-good, operation-injective}
 use Rattle.regions.proofs.Regions.{region-behind, region-rest}

@@ -86,6 +86,17 @@ impl Report {
         self.text(label).decimal(n)
     }
 
+    // A line for an example that a document gives: whether it came out as written there.
+    pub fn example(self, example: &[u8], as_written: bool) -> Self
+        ensures { λ r. ⌜ StaysFailed (self .ok) (r .ok) ⌝ }
+    {
+        let report = self.text(example);
+        if as_written {
+            return report.text(b": as written\n");
+        }
+        report.text(b": DIFFERS\n")
+    }
+
     // The first n bytes of a text, as they are; none where it has fewer.
     fn front(self, text: &[u8], n: usize) -> Self
         ensures { λ r. ⌜ StaysFailed (self .ok) (r .ok) ⌝ }

@@ -15,13 +15,14 @@ use Rattle.message_header.specs.Header.{foreign, unofferedKind, commandOf}
 use Rattle.element_parts.specs.Parts.{readNumber, itemCount}
 use Rattle.regions.specs.Region.{regionLength, anyRegion, startAboveEnd, endIsLast, regionNumber}
 use Rattle.regions.specs.RwRegion.{rwRegionNumber}
-use Rattle.elements.specs.SignedImage.{imageFieldsMalformed, badFlag, imageBytes, imageWriteStep}
-use Rattle.element_parts.proofs.Verdicts.{or-left, write-yes, write-wrong-buffer}
+use Rattle.signed_image.specs.SignedImage.{imageFieldsMalformed, badFlag, imageBytes, imageWriteStep}
+use Rattle.laws.proofs.Tests.{or-left}
+use Rattle.element_parts.proofs.Verdicts.{write-yes, write-wrong-buffer}
 use Rattle.element_parts.proofs.Items.{items-of, counted}
-use Rattle.elements.proofs.Flags.{flag-good}
+use Rattle.signed_image.proofs.Flags.{flag-good}
 use Rattle.regions.proofs.Regions.{region-element}
-use Rattle.elements.proofs.Images.{sound-image}
-use Rattle.elements.proofs.RoundTrips.{round-trips}
+use Rattle.signed_image.proofs.Images.{sound-image}
+use Rattle.signed_image.proofs.RoundTrips.{round-trips}
 use Rattle.laws.specs.Lists.{All}
 use Rattle.scope_examples.specs.Examples.{Holds, start-is-end, one-region-image, table}
 

@@ -12,7 +12,7 @@ use Rattle.regions.specs.declared.rw_region.Operation.{Operation}
 use Rattle.regions.specs.declared.rw_region.Operation.the-variants.{Erase, Reserved}
 use Rattle.regions.specs.Region.{regionSize, endIsLast, regionNumber}
 use Rattle.regions.specs.RwRegion.{RwFields, rwFieldsOf, rwRegionNumber, rwRegionFields}
-use Rattle.elements.specs.SignedImage.{imageNumber, imageFields, imageHash, imageRegions, imageWriteStep}
+use Rattle.signed_image.specs.SignedImage.{imageNumber, imageFields, imageHash, imageRegions, imageWriteStep}
 
 -- ---- what an example says
 

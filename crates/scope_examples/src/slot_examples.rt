@@ -1,5 +1,4 @@
 // Totals at the limits, and Get PCD Id after a manifest with id 0x01020304 became active.
-use crate::show;
 use manifest_slot::Opening;
 use manifest_slot::Slot;
 use report::Report;
@@ -17,23 +16,13 @@ fn prepared(slot: Slot, total: u32, pending: &[u8], active: &[u8]) -> u8 {
 }
 
 fn totals(report: Report, slot: Slot, pending: &[u8], active: &[u8]) -> Report {
-    let r1 = show(
-        report,
-        b"total 12 is 5",
-        prepared(slot, 12, pending, active) == 5,
-    );
-    let r2 = show(
-        r1,
-        b"total 13 passes",
-        prepared(slot, 13, pending, active) == 0,
-    );
-    let r3 = show(
-        r2,
+    let r1 = report.example(b"total 12 is 5", prepared(slot, 12, pending, active) == 5);
+    let r2 = r1.example(b"total 13 passes", prepared(slot, 13, pending, active) == 0);
+    let r3 = r2.example(
         b"total 4,096 passes",
         prepared(slot, 4096, pending, active) == 0,
     );
-    show(
-        r3,
+    r3.example(
         b"total 4,097 is 5",
         prepared(slot, 4097, pending, active) == 5,
     )
@@ -60,13 +49,11 @@ fn get_pcd_id(report: Report, slot: Slot, pending: &mut [u8], active: &mut [u8])
         &mut response,
     );
     let verdict = outcome.verdict;
-    let r1 = show(
-        report,
+    let r1 = report.example(
         b"Get PCD Id is accepted and writes ten bytes",
         verdict.number() == 0 && outcome.written == 10,
     );
-    show(
-        r1,
+    r1.example(
         b"with id 0x01020304 active it ends 01 04 03 02 01, and the bytes behind it stay",
         octets::same(
             &response,
@@ -86,8 +73,7 @@ pub(crate) fn run(report: Report) -> Report {
     let mut active = [0xffu8; Slot::BUFFER_LEN];
     let opening = Slot::open(MAGIC, &mut pending, &mut active);
     match opening {
-        Opening::Refused(_) => show(
-            report,
+        Opening::Refused(_) => report.example(
             b"an opening with two buffers of 4,096 bytes is accepted",
             false,
         ),

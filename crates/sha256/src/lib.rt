@@ -1,12 +1,10 @@
 // SHA-256 (FIPS 180-4) of a slice of bytes.
-mod block;
-mod constants;
+mod initial_hash_value;
 mod message;
-mod schedule;
-mod words;
 
 use refusal::Refusal;
 use refusal::Verdict;
+use sha256_blocks::whole_blocks;
 ghost use mathlib.Core.Path.{_≡_};
 ghost use mathlib.Core.List.{_++_};
 ghost use lib.ListN.{replicate};
@@ -40,7 +38,7 @@ pub fn sha256(message: &[u8]) -> Hashed
     if message.len() >= TOO_LONG {
         return too_long();
     }
-    let mut h = constants::INITIAL_HASH_VALUE;
+    let mut h = initial_hash_value::SHA256;
     Hashed {
         verdict: Verdict::Accepted,
         digest: message::digest(&mut h, 0, message),
@@ -55,8 +53,8 @@ pub fn sha256_after_block(block: [u8; 64], message: &[u8]) -> Hashed
     if message.len() >= TOO_LONG - 64 {
         return too_long();
     }
-    let mut h = constants::INITIAL_HASH_VALUE;
-    block::update(&mut h, &block);
+    let mut h = initial_hash_value::SHA256;
+    whole_blocks(&mut h, &block);
     Hashed {
         verdict: Verdict::Accepted,
         digest: message::digest(&mut h, 1, message),

@@ -1,27 +1,16 @@
 // FIPS 180-4, 5.1, 5.2 and 6.2: the padded message, the hash value over its blocks, and its bytes. The message m may follow k blocks that have been
 // hashed already: they count in its length, and nowhere else.
-use crate::block;
+use sha256_blocks::whole_blocks;
 ghost use mathlib.Core.Path.{_≡_};
-ghost use Prim.Native.Nat.{_<_, _+_, _*_, _/_, _^_};
+ghost use Prim.Native.Nat.{_<_, _+_, _*_, _^_};
 ghost use lib.ListN.{length};
 ghost use Rattle.fips180.specs.Padding.{bigEndian};
-ghost use Rattle.fips180.specs.Hash.{«compress», hashValue, wordBytesOf};
+ghost use Rattle.fips180.specs.Hash.{«compress», wordBytesOf};
 ghost use Rattle.fips180.specs.Continued.{hashAfter};
 ghost use Rattle.fips180.specs.LastBlocks.{tailBlock, withLength};
 ghost use Rattle.fips180.specs.Sha256.{family32};
 
-// The hash value s brought forward by the blocks that lie in the message itself: they are read where they are.
-fn whole_blocks(s: &mut [u32; 8], m: &[u8])
-    ensures { λ _. ⌜ now (s .exit) ≡ hashValue family32 (now (s .entry)) (now (m .entry)) (length (now (m .entry)) / 64) ⌝ }
-{
-    for i in 0..m.len() / 64 {
-        let a = i * 64;
-        let e = a + 64;
-        block::update(s, &m[a..e]);
-    }
-}
-
-// The bytes past those blocks, the byte 0x80 and zeros.
+// The bytes past the whole blocks, the byte 0x80 and zeros.
 fn put_tail(m: &[u8], out: &mut [u8; 64])
     ensures { λ _. ⌜ now (out .exit) ≡ tailBlock family32 (now (m .entry)) ⌝ }
 {
@@ -53,7 +42,7 @@ fn last_block(s: &mut [u32; 8], b: &mut [u8; 64], n: usize)
     let low = word_bytes((n % 0x2000_0000 * 8) as u32);
     octets::put(b, 56, &high);
     octets::put(b, 60, &low);
-    block::update(s, b);
+    whole_blocks(s, b);
 }
 
 // The hash value s brought forward by all that is left: the last blocks, one or two, are put together.
@@ -69,7 +58,7 @@ fn hash_value(s: &mut [u32; 8], k: usize, m: &[u8])
         last_block(s, &mut b, n);
         return;
     }
-    block::update(s, &b);
+    whole_blocks(s, &b);
     b = [0u8; 64];
     last_block(s, &mut b, n);
 }

@@ -1,26 +1,13 @@
 // FIPS 180-4, 5.1, 5.2, 6.4 and 6.5: the padded message, the hash value over its blocks, and its bytes.
-use crate::block;
+use sha512_blocks::whole_blocks;
 ghost use mathlib.Core.Path.{_≡_};
-ghost use Prim.Native.Nat.{_/_};
-ghost use lib.ListN.{length};
 ghost use Rattle.fips180.specs.Padding.{bigEndian};
-ghost use Rattle.fips180.specs.Hash.{«compress», hashValue, wordBytesOf};
+ghost use Rattle.fips180.specs.Hash.{«compress», wordBytesOf};
 ghost use Rattle.fips180.specs.Continued.{hashAfter};
 ghost use Rattle.fips180.specs.LastBlocks.{tailBlock, withLength};
 ghost use Rattle.fips180.specs.Sha512.{family64};
 
-// The hash value s brought forward by the blocks that lie in the message itself: they are read where they are.
-fn whole_blocks(s: &mut [u64; 8], m: &[u8])
-    ensures { λ _. ⌜ now (s .exit) ≡ hashValue family64 (now (s .entry)) (now (m .entry)) (length (now (m .entry)) / 128) ⌝ }
-{
-    for i in 0..m.len() / 128 {
-        let a = i * 128;
-        let e = a + 128;
-        block::update(s, &m[a..e]);
-    }
-}
-
-// The bytes past those blocks, the byte 0x80 and zeros.
+// The bytes past the whole blocks, the byte 0x80 and zeros.
 fn put_tail(m: &[u8], out: &mut [u8; 128])
     ensures { λ _. ⌜ now (out .exit) ≡ tailBlock family64 (now (m .entry)) ⌝ }
 {
@@ -56,7 +43,7 @@ fn last_block(s: &mut [u64; 8], b: &mut [u8; 128], n: usize)
     let low = word_bytes((n % 0x2000_0000_0000_0000 * 8) as u64);
     octets::put(b, 112, &high);
     octets::put(b, 120, &low);
-    block::update(s, b);
+    whole_blocks(s, b);
 }
 
 // The hash value s brought forward by all of the message: the last blocks, one or two, are put together.
@@ -70,7 +57,7 @@ fn hash_value(s: &mut [u64; 8], m: &[u8])
         last_block(s, &mut b, m.len());
         return;
     }
-    block::update(s, &b);
+    whole_blocks(s, &b);
     b = [0u8; 128];
     last_block(s, &mut b, m.len());
 }

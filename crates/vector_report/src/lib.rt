@@ -31,24 +31,14 @@ impl Tally {
         ensures counts { λ r. ⌜ (r .run ≡ self .run) × (r .differ ≡ self .differ) ⌝ }
         ensures failed { λ r. ⌜ StaysFailed (self .report .ok) (r .report .ok) ⌝ }
     {
-        let report = self.report;
-        Tally {
-            run: self.run,
-            differ: self.differ,
-            report: report.text(text),
-        }
+        self.reporting(self.report.text(text))
     }
 
     pub fn labelled(self, label: &[u8], n: u64) -> Self
         ensures counts { λ r. ⌜ (r .run ≡ self .run) × (r .differ ≡ self .differ) ⌝ }
         ensures failed { λ r. ⌜ StaysFailed (self .report .ok) (r .report .ok) ⌝ }
     {
-        let report = self.report;
-        Tally {
-            run: self.run,
-            differ: self.differ,
-            report: report.labelled(label, n),
-        }
+        self.reporting(self.report.labelled(label, n))
     }
 
     // Ends a vector's line: whether the computed bytes are the expected ones, or which others they are.
@@ -81,11 +71,18 @@ impl Tally {
     {
         let counted = self.labelled(b"", self.run)
             .labelled(b" vectors, ", self.differ);
-        let report = counted.report;
+        counted.reporting(counted.report.text(b" differ\n").end())
+    }
+
+    // The same counts with another report.
+    fn reporting(self, report: Report) -> Self
+        ensures counts { λ r. ⌜ (r .run ≡ self .run) × (r .differ ≡ self .differ) ⌝ }
+        ensures report { λ r. ⌜ r .report ≡ report ⌝ }
+    {
         Tally {
-            run: counted.run,
-            differ: counted.differ,
-            report: report.text(b" differ\n").end(),
+            run: self.run,
+            differ: self.differ,
+            report,
         }
     }
 }

@@ -14,37 +14,42 @@ use Rattle.whole_io.specs.declared.Step.the-variants.{Again, Over}
 use Rattle.whole_io.specs.Calls.{isEINTR, failedBy, movedBy}
 use Rattle.whole_io.specs.Transfers.{stepAfter, bytesRead, AtMost}
 
--- the next call is lent fewer bytes, or may be interrupted less often
-pub record Nearer (room done left d l : ℕ) : Type 0 where
-  pub most : d ≤ done + room
-  pub nearer : done + l < d + left
+-- a turn of a loop over len bytes that goes on: the next call is lent fewer of them, or may be interrupted less often
+pub record Nearer (len done left d l : ℕ) : Type 0 where
+  pub within : d ≤ len
+  pub nearer : len - d + l < len - done + left
 
 -- what holds of a step: one that goes on is nearer to the end, and what it answers at the end is within the buffer
 abbrev pub Sound : ℕ → ℕ → ℕ → Step → Type 0
-Sound room done left (Again d l) = Nearer room done left d l
-Sound room done left (Over reading) = AtMost (done + room) (bytesRead reading)
+Sound len done left (Again d l) = Nearer len done left d l
+Sound len done left (Over reading) = AtMost len (bytesRead reading)
 
-failed-sound : (t : Bool) (room done left : ℕ) → Sound room done left (stepAfter (failedBy t) done left)
+failed-sound : (t : Bool) (len done left : ℕ) → done < len → Sound len done left (stepAfter (failedBy t) done left)
 unfolding stepAfter
-failed-sound true room done zero = tt
-failed-sound true room done (suc left) = record { most = omega arith; nearer = omega arith }
-failed-sound false room done left = tt
+failed-sound true len done zero h = tt
+failed-sound true len done (suc left) h = record { within = omega arith; nearer = omega arith }
+failed-sound false len done left h = tt
 
-pub sound : (got error : ℤ) (room done left : ℕ) → 0 < room → Sound room done left (stepAfter (movedBy got error room) done left)
+pub sound : (got error : ℤ) (len done left : ℕ) → done < len → Sound len done left (stepAfter (movedBy got error (len - done)) done left)
 unfolding movedBy stepAfter
-sound (pos zero) error room done left h = omega arith
-sound (pos (suc n)) error room done left h = record { most = omega arith; nearer = omega arith }
-sound (negsuc n) error room done left h = failed-sound (isEINTR error) room done left
-
-pub again-nearer : (got error : ℤ) (room done left d l : ℕ) (r : Step) → 0 < room → r ≡ stepAfter (movedBy got error room) done left → r ≡ Again d l → Nearer room done left d l
-again-nearer got error room done left d l r h e f = subst (Sound room done left) (sym e ∙ f) (sound got error room done left h)
+sound (pos zero) error len done left h = omega arith
+sound (pos (suc n)) error len done left h = record { within = omega arith; nearer = omega arith }
+sound (negsuc n) error len done left h = failed-sound (isEINTR error) len done left h
 
 at-most : {m n : ℕ} → m ≤ n → (o : Option ℕ) → AtMost m o → AtMost n o
 at-most h (some k) l = omega arith
 at-most h none l = tt
 
-pub over-within : (got error : ℤ) (room done left limit : ℕ) (reading : Reading) (r : Step) → 0 < room → done + room ≤ limit → r ≡ stepAfter (movedBy got error room) done left → r ≡ Over reading → AtMost limit (bytesRead reading)
-over-within got error room done left limit reading r h k e f = at-most k (bytesRead reading) (subst (Sound room done left) (sym e ∙ f) (sound got error room done left h))
+-- the step that the code made of a call, by the case that the match found
+module _ (got error : ℤ) (len done left : ℕ) {r : Step} (h : done < len) (e : r ≡ stepAfter (movedBy got error (len - done)) done left) where
+  step-sound : {s : Step} → r ≡ s → Sound len done left s
+  step-sound f = subst (Sound len done left) (sym e ∙ f) (sound got error len done left h)
+
+  pub again-nearer : {d l : ℕ} → r ≡ Again d l → Nearer len done left d l
+  again-nearer f = step-sound f
+
+  pub over-within : {reading : Reading} {limit : ℕ} → len ≤ limit → r ≡ Over reading → AtMost limit (bytesRead reading)
+  over-within {reading} k f = at-most k (bytesRead reading) (step-sound f)
 
 -- how many bytes a reading gave, by its case
 pub counted : {limit n : ℕ} (r : Reading) → r ≡ Reading.Whole n → AtMost limit (bytesRead r) → n ≤ limit

@@ -27,7 +27,8 @@ pub enum Reading {
 
 // How a reading or a writing goes on after a call.
 pub(crate) enum Step {
-    Again { done: usize, interruptions: usize },
+    // So many bytes are done, and so many interruptions still allowed.
+    Again(usize, usize),
     Over(Reading),
 }
 
@@ -64,19 +65,13 @@ pub(crate) fn step_after(
 {
     let call = call_moved(got, error, len - done);
     match call {
-        Moved::Bytes(n) => Step::Again {
-            done: done + n,
-            interruptions,
-        },
+        Moved::Bytes(n) => Step::Again(done + n, interruptions),
         Moved::Nothing => Step::Over(Reading::Whole(done)),
         Moved::Interrupted => {
             if interruptions == 0 {
                 return Step::Over(Reading::Failed);
             }
-            Step::Again {
-                done,
-                interruptions: interruptions - 1,
-            }
+            Step::Again(done, interruptions - 1)
         }
         Moved::Failed => Step::Over(Reading::Failed),
     }
@@ -94,10 +89,7 @@ pub fn read_whole(fd: i32, buffer: &mut [u8]) -> Reading
         let got = libc::read(fd, &mut buffer[done..]);
         let next = step_after(got, os::errno(), done, len, interruptions);
         match next {
-            Step::Again {
-                done: d,
-                interruptions: i,
-            } => {
+            Step::Again(d, i) => {
                 done = d;
                 interruptions = i;
             }
@@ -119,10 +111,7 @@ pub fn write_whole(fd: i32, bytes: &[u8]) -> bool
         let put = libc::write(fd, &bytes[done..]);
         let next = step_after(put, os::errno(), done, len, interruptions);
         match next {
-            Step::Again {
-                done: d,
-                interruptions: i,
-            } => {
+            Step::Again(d, i) => {
                 done = d;
                 interruptions = i;
             }

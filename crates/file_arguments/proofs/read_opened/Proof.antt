@@ -4,11 +4,19 @@ use Rattle.file_arguments.proofs.Descriptors.{none-unopened, opened-bit
 use Rattle.file_arguments.proofs.read_opened.Statement.{statement}
 use Rattle.file_arguments.proofs.read_opened.Tie as tie
 
+-- what came in, seen from the test of the descriptor
+abbrev inputs : tie.After-slice-known → tie.Start
+inputs c = c .before .before
+
 returns : tie.Need-returns
-returns c = (none-unopened (c .before .before .before .before .args .fd), (tt, refl))
+returns c = (none-unopened (inputs (c .before .before) .args .fd), (tt, refl))
 
 returns-2 : tie.Need-returns-2
-returns-2 c = (opened-bits (c .before .before .before .before .before .before .before .before .before .args .fd) _ (c .before .before .before .before .before .before .before .before .before .fits .fd) (c .before .before .before .before .before .before .if1 .left), (c .before .before .before .before .read-whole .ensures .0, c .before .before .before .before .read-whole .ensures .1))
+returns-2 c =
+    let read = c .before .before .before .before in
+    let opened = read .before .before in
+    let s = inputs (opened .before) in
+    (opened-bits (s .args .fd) _ (s .fits .fd) (opened .if1 .left), (read .read-whole .ensures .0, read .read-whole .ensures .1))
 
 pub read-opened-spec : {M : Type 1} → statement M
 read-opened-spec =

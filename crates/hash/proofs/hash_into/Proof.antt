@@ -1,52 +1,35 @@
-use Prim.Native.Nat.{_≤_}
-use mathlib.Core.Path.{_≡_, sym, ap, _∙_}
+use mathlib.Core.Path.{_≡_, sym, _∙_}
 use native.Mathlib.Omega.{arith}
 use borrow.Author.Needs.{needs}
 use lib.ListN.{length}
 use lib.Seq.{length-take-le}
-use Rattle.refusal.proofs.Laws.{says-yes}
 use Rattle.refusal.proofs.Steps.{decided-refused, decided-accepted}
-use Rattle.octets.proofs.Buffers.{pasted-whole}
-use Rattle.hash.specs.Types.{hashOf}
-use Rattle.hash.specs.Calls.{hashNumber, hashStep}
-use Rattle.hash.proofs.Types.{hash-long, hash-cut}
-use Rattle.hash.proofs.Numbers.{number-accepts, number-bound, number-own}
+use Rattle.hash.specs.Calls.{hashStep}
+use Rattle.hash.proofs.Numbers.{HashAccepted, hash-accepted, hash-filled}
 use Rattle.hash.proofs.hash_into.Statement.{statement}
 use Rattle.hash.proofs.hash_into.Tie as tie
 
--- what came in, seen from the verdict, and the verdict, seen from where it accepted
-abbrev inputs : tie.After-hash-verdict → tie.Start
-inputs c = c .before .before .before
-
+-- the verdict, seen from where it accepted, and what is known from there on
 abbrev verdict : tie.After-enum-told2 → tie.After-hash-verdict
 verdict c = c .before .before
 
--- what is known from there on
-accepted-number : (c : tie.After-enum-told2)
-    → let a = inputs (verdict c) .args in
-    hashNumber (a .hash-type) (length (a .message .now)) (length (a .hash .now)) ≡ 0
-accepted-number c = says-yes (verdict c .hash-verdict .ensures) (c .enum-told2 .given .1)
-
-fits : (c : tie.After-enum-told2) → length (inputs (verdict c) .args .hash .now) ≤ 64
-fits c = number-bound _ _ _ (accepted-number c)
+known : (c : tie.After-enum-told2) → let a = verdict c .before .before .before .args in HashAccepted (a .hash-type) (a .message .now) (a .hash .now)
+known c = hash-accepted _ _ _ (verdict c .hash-verdict .ensures) (c .enum-told2 .given .1)
 
 returns : tie.Need-returns
 unfolding hashStep
-returns c =
-    let judged = c .before .before in
-    let a = inputs judged .args in
-    decided-refused (a .hash .now) (hashOf (a .hash-type) (a .message .now)) (judged .hash-verdict .ensures) (c .enum-told .given .1)
+returns c = decided-refused _ _ (c .before .before .hash-verdict .ensures) (c .enum-told .given .1)
 
 padded-hash-requires : tie.Need-padded-hash-requires
-padded-hash-requires c κs = number-own _ _ _ (accepted-number c)
+padded-hash-requires c κs = known c .own
 
 array-share-prefix-made : tie.Need-array-share-prefix-made
-array-share-prefix-made c = omega (arith, fits (c .before .before))
+array-share-prefix-made c = omega (arith, known (c .before .before) .bound)
 
 slice-aggregate-put : tie.Need-slice-aggregate-put
 slice-aggregate-put c =
     let made = c .before .before in
-    let b = fits (made .before) in
+    let b = known (made .before) .bound in
     let l : length (made .padded-hash .result) ≡ 64 = search needs in
     sym (length-take-le _ (made .padded-hash .result) (omega arith))
 
@@ -56,12 +39,8 @@ returns-2 c =
     let put = c .before .before in
     let made = put .before .before .before in
     let told = made .before in
-    let a = inputs (verdict told) .args in
-    let long = number-accepts _ _ _ (accepted-number told) .fits in
-    let cut = hash-cut (a .hash-type) (a .message .now) (length (a .hash .now)) long (made .padded-hash .ensures) in
-    let filled = pasted-whole (a .hash .now) _ (ap length cut ∙ hash-long (a .hash-type) (a .message .now) ∙ sym long) in
-    decided-accepted (a .hash .now) (hashOf (a .hash-type) (a .message .now)) (verdict told .hash-verdict .ensures) (told .enum-told2 .given .1)
-    (put .put .ensures ∙ filled ∙ cut)
+    decided-accepted _ _ (verdict told .hash-verdict .ensures) (told .enum-told2 .given .1)
+    (put .put .ensures ∙ hash-filled _ _ _ (known told) (made .padded-hash .ensures))
 
 pub hash-into-spec : {M : Type 1} → statement M
 hash-into-spec =

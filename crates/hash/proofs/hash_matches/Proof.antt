@@ -1,61 +1,40 @@
-use Prim.Native.Nat.{ℕ, _≤_}
-use mathlib.Core.Path.{_≡_, sym, ap, _∙_}
-use mathlib.Core.List.{List}
+use mathlib.Core.Path.{_≡_, sym, _∙_}
 use native.Mathlib.Omega.{arith}
 use borrow.Author.Needs.{needs}
 use lib.ListN.{length}
 use lib.Seq.{length-take-le}
-use Rattle.refusal.proofs.Laws.{says-no, says-yes}
-use Rattle.octets.specs.Octets.{sameBytes}
-use Rattle.hash.specs.Calls.{hashNumber}
-use Rattle.hash.proofs.Types.{hash-cut}
-use Rattle.hash.proofs.Numbers.{number-accepts, number-bound, number-own, matches-refused, matches-accepted}
+use Rattle.refusal.proofs.Laws.{says-no}
+use Rattle.hash.proofs.Numbers.{HashAccepted, hash-accepted, hash-compared, matches-refused}
 use Rattle.hash.proofs.hash_matches.Statement.{statement}
 use Rattle.hash.proofs.hash_matches.Tie as tie
 
--- what came in, seen from the verdict, and the verdict, seen from where it accepted
-abbrev inputs : tie.After-hash-verdict → tie.Start
-inputs c = c .before .before .before
-
+-- the verdict, seen from where it accepted, and what is known from there on
 abbrev verdict : tie.After-enum-told2 → tie.After-hash-verdict
 verdict c = c .before .before
 
--- what is known from there on
-accepted-number : (c : tie.After-enum-told2)
-    → let a = inputs (verdict c) .args in
-    hashNumber (a .hash-type) (length (a .message .now)) (length (a .hash .now)) ≡ 0
-accepted-number c = says-yes (verdict c .hash-verdict .ensures) (c .enum-told2 .given .1)
-
-fits : (c : tie.After-enum-told2) → length (inputs (verdict c) .args .hash .now) ≤ 64
-fits c = number-bound _ _ _ (accepted-number c)
+known : (c : tie.After-enum-told2) → let a = verdict c .before .before .before .args in HashAccepted (a .hash-type) (a .message .now) (a .hash .now)
+known c = hash-accepted _ _ _ (verdict c .hash-verdict .ensures) (c .enum-told2 .given .1)
 
 returns : tie.Need-returns
-returns c =
-    let judged = c .before .before in
-    let a = inputs judged .args in
-    matches-refused (a .hash-type) (a .message .now) (a .hash .now) (says-no (judged .hash-verdict .ensures) (c .enum-told .given .1))
+returns c = matches-refused _ _ _ (says-no (c .before .before .hash-verdict .ensures) (c .enum-told .given .1))
 
 padded-hash-requires : tie.Need-padded-hash-requires
-padded-hash-requires c κs = number-own _ _ _ (accepted-number c)
+padded-hash-requires c κs = known c .own
 
 array-share-prefix-made : tie.Need-array-share-prefix-made
-array-share-prefix-made c = omega (arith, fits (c .before))
+array-share-prefix-made c = omega (arith, known (c .before) .bound)
 
 slice-aggregate-same : tie.Need-slice-aggregate-same
 slice-aggregate-same c =
     let made = c .before in
-    let b = fits (made .before) in
+    let b = known (made .before) .bound in
     let l : length (made .padded-hash .result) ≡ 64 = search needs in
     sym (length-take-le _ (made .padded-hash .result) (omega arith))
 
 returns-2 : tie.Need-returns-2
 returns-2 c =
     let made = c .before .before in
-    let told = made .before in
-    let a = inputs (verdict told) .args in
-    let yes = accepted-number told in
-    let cut = hash-cut (a .hash-type) (a .message .now) (length (a .hash .now)) (number-accepts _ _ _ yes .fits) (made .padded-hash .ensures) in
-    c .same .ensures ∙ ap (λ (h : List ℕ). sameBytes h (a .hash .now)) cut ∙ matches-accepted (a .hash-type) (a .message .now) (a .hash .now) yes
+    c .same .ensures ∙ hash-compared _ _ _ (known (made .before)) (made .padded-hash .ensures)
 
 pub hash-matches-spec : {M : Type 1} → statement M
 hash-matches-spec =

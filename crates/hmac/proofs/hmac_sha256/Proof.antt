@@ -12,39 +12,58 @@ use Rattle.hmac.proofs.hmac_sha256.Tie as tie
 
 returns : tie.Need-returns
 returns c =
-    let a = c .before .before .before .before .args in
-    let l = c .before .if1 .taken in
+    let test = c .before in
+    let a = test .before .before .before .args in
+    let l = test .if1 .taken in
     let n = key-refused (a .key .now) (a .text .now) (omega arith) in
     (c .refused .ensures .0 ∙ sym n, c .refused .ensures .1 ∙ sym (mac-refused _ _ n))
 
 returns-2 : tie.Need-returns-2
 returns-2 c =
-    let a = c .before .before .before .before .before .args in
-    let l = c .before .if2 .taken in
-    let n = text-refused (a .key .now) (a .text .now) (c .before .before .if1 .left) (omega arith) in
+    let test = c .before in
+    let key-test = test .before in
+    let a = key-test .before .before .before .args in
+    let l = test .if2 .taken in
+    let n = text-refused (a .key .now) (a .text .now) (key-test .if1 .left) (omega arith) in
     (c .refused2 .ensures .0 ∙ sym n, c .refused2 .ensures .1 ∙ sym (mac-refused _ _ n))
+
+-- each pad is a block, and the inner digest has 32 bytes
+inner-long : (c : tie.After-padded-with) → length (c .padded-with .result) ≡ 64
+inner-long c = search needs
+
+digest-long : (c : tie.After-sha256-after-block) → length (c .sha256-after-block .result .digest) ≡ 32
+digest-long c = search needs
+
+outer-long : (c : tie.After-padded-with2) → length (c .padded-with2 .result) ≡ 64
+outer-long c = search needs
 
 returns-3 : tie.Need-returns-3
 returns-3 c =
-    let keyed = c .before .before .before .before .before .before in
-    let a = keyed .before .before .before .before .before .before .args in
+    let outer = c .before in
+    let outer-pad = outer .before .before in
+    let inner = outer-pad .before .before in
+    let inner-pad = inner .before in
+    let keyed = inner-pad .before in
+    let text-test = keyed .before in
+    let key-test = text-test .before in
+    let a = key-test .before .before .before .args in
     let key : List ℕ = a .key .now in
     let text : List ℕ = a .text .now in
-    let l = keyed .before .before .if2 .left in
-    let n = number-accepted key text (keyed .before .before .before .if1 .left) (omega arith) in
-    let x : List ℕ = keyed .padded-with .result in
-    let i : List ℕ = c .before .before .before .before .before .sha256-after-block .result .digest in
-    let y : List ℕ = c .before .before .before .padded-with2 .result in
-    let lx : length x ≡ 64 = search needs in
-    let ly : length y ≡ 64 = search needs in
-    let li : length i ≡ 32 = search needs in
+    let l = text-test .if2 .left in
+    let n = number-accepted key text (key-test .if1 .left) (omega arith) in
+    let x : List ℕ = inner-pad .padded-with .result in
+    let i : List ℕ = inner .sha256-after-block .result .digest in
+    let y : List ℕ = outer-pad .padded-with2 .result in
+    let lx = inner-long inner-pad in
+    let ly = outer-long outer-pad in
+    let li = digest-long inner in
     let nx = length-append x text in
     let ny = length-append y i in (
       sym n,
-      mac-of-parts key text _ x i y _ (keyed .before .key-block .ensures) (keyed .padded-with .ensures)
-          (c .before .before .before .before .before .sha256-after-block .ensures .1 ∙ digest-accepted (x ++ text) (omega arith))
-          (c .before .before .before .padded-with2 .ensures)
-          (c .before .sha256-after-block2 .ensures .1 ∙ digest-accepted (y ++ i) (omega arith))
+      mac-of-parts key text _ x i y _ (keyed .key-block .ensures) (inner-pad .padded-with .ensures)
+          (inner .sha256-after-block .ensures .1 ∙ digest-accepted (x ++ text) (omega arith))
+          (outer-pad .padded-with2 .ensures)
+          (outer .sha256-after-block2 .ensures .1 ∙ digest-accepted (y ++ i) (omega arith))
           ∙ sym (mac-accepted key text n),
     )
 

@@ -15,18 +15,21 @@ use Rattle.hmac.proofs.key_block.Tie as tie
 
 returns : tie.Need-returns
 returns c =
-    let start = c .before .before .before .before .before .before .before .before in
-    let key : List ℕ = start .args .key .now in
-    let e = c .before .before .before .before .before .sha256 .ensures .1 ∙ digest-accepted key (omega arith) in
+    let replaced = c .before in
+    let hashed = replaced .before .before .before .before in
+    let test = hashed .before in
+    let key : List ℕ = test .before .before .args .key .now in
+    let e = hashed .sha256 .ensures .1 ∙ digest-accepted key (omega arith) in
     let l = sha256-length key in
-    c .before .replace .ensures ∙ ap (replacedBy (replicate 64 0)) e ∙ replaced-fits (replicate 64 0) (sha256 key) (omega arith)
-    ∙ sym (key-long 64 sha256 key (c .before .before .before .before .before .before .if1 .taken))
+    replaced .replace .ensures ∙ ap (replacedBy (replicate 64 0)) e ∙ replaced-fits (replicate 64 0) (sha256 key) (omega arith)
+    ∙ sym (key-long 64 sha256 key (test .if1 .taken))
 
 returns-2 : tie.Need-returns-2
 returns-2 c =
-    let start = c .before .before .before .before .before in
-    let key : List ℕ = start .args .key .now in
-    c .before .replace2 .ensures ∙ replaced-fits (replicate 64 0) key (omega arith) ∙ sym (key-fits 64 sha256 key (c .before .before .before .if1 .left))
+    let replaced = c .before in
+    let test = replaced .before .before in
+    let key : List ℕ = test .before .before .args .key .now in
+    replaced .replace2 .ensures ∙ replaced-fits (replicate 64 0) key (omega arith) ∙ sym (key-fits 64 sha256 key (test .if1 .left))
 
 pub key-block-spec : {M : Type 1} → statement M
 key-block-spec =

@@ -6,10 +6,10 @@ use Rattle.octets.proofs.behind.Statement.{statement}
 use Rattle.octets.proofs.behind.Tie as tie
 
 returns : tie.Need-returns
-returns c = take-to-end (c .before .before .args .at) (c .before .before .args .b .now)
+returns c = let a = c .before .before .args in take-to-end (a .at) (a .b .now)
 
 returns-2 : tie.Need-returns-2
-returns-2 c = sym (drop-of-length-le (c .before .before .args .b .now) (c .before .if1 .left))
+returns-2 c = let past = c .before in sym (drop-of-length-le (past .before .args .b .now) (past .if1 .left))
 
 pub behind-spec : {M : Type 1} → statement M
 behind-spec =

@@ -6,7 +6,7 @@ use Rattle.octets.proofs.front.Statement.{statement}
 use Rattle.octets.proofs.front.Tie as tie
 
 slice-aggregate-result : tie.Need-slice-aggregate-result
-slice-aggregate-result c = sym (length-take-le (c .before .before .args .n) (c .before .before .args .b .now) (omega arith))
+slice-aggregate-result c = let a = c .before .before .args in sym (length-take-le (a .n) (a .b .now) (omega arith))
 
 returns-2 : tie.Need-returns-2
 returns-2 c = sym (take-all _ _ (c .if1 .left))

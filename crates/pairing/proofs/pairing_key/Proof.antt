@@ -24,23 +24,32 @@ returns c =
 returns-2 : tie.Need-returns-2
 unfolding pairingStep
 returns-2 c =
-    let a = c .before .before .before .before .before .before .args in
-    let n = c .before .before .first-iteration .ensures .0 ∙ key-decides (a .session-key .now) (a .out .now) (c .before .before .before .if1 .left) in
+    let derived = c .before .before in
+    let test = derived .before in
+    let a = test .before .before .before .args in
+    let n = derived .first-iteration .ensures .0 ∙ key-decides (a .session-key .now) (a .out .now) (test .if1 .left) in
     decided-refused _ _ n (c .enum-told .given .1)
+
+-- a code has 32 bytes
+mac-long : (c : tie.After-first-iteration) → length (c .first-iteration .result .mac) ≡ 32
+mac-long c = search needs
 
 returns-3 : tie.Need-returns-3
 unfolding pairingStep
 returns-3 c =
-    let told = c .before .before .before .before .before .before in
-    let a = told .before .before .before .before .before .before .args in
+    let stored = c .before .before in
+    let told = stored .before .before .before .before in
+    let made = told .before .before in
+    let test = made .before in
+    let a = test .before .before .before .args in
     let key : List ℕ = a .session-key .now in
     let out : List ℕ = a .out .now in
-    let derived = told .before .before .first-iteration in
+    let derived = made .first-iteration in
     let mac : List ℕ = derived .result .mac in
-    let l : length mac ≡ 32 = search needs in
+    let l = mac-long made in
     let n = says-yes (derived .ensures .0) (told .enum-told2 .given .1) in
-    decided-accepted _ _ (derived .ensures .0 ∙ key-decides key out (told .before .before .before .if1 .left)) (told .enum-told2 .given .1)
-    (c .before .before .put .ensures ∙ pasted-whole out mac (omega arith) ∙ derived .ensures .1 ∙ mac-accepted key _ n ∙ one-iteration key)
+    decided-accepted _ _ (derived .ensures .0 ∙ key-decides key out (test .if1 .left)) (told .enum-told2 .given .1)
+    (stored .put .ensures ∙ pasted-whole out mac (omega arith) ∙ derived .ensures .1 ∙ mac-accepted key _ n ∙ one-iteration key)
 
 pub pairing-key-spec : {M : Type 1} → statement M
 pairing-key-spec =

@@ -11,15 +11,17 @@ use Rattle.sha256.proofs.sha256.Tie as tie
 
 returns : tie.Need-returns
 returns c =
-    let m : List ℕ = c .before .before .before .args .message .now in
-    let l = c .before .if1 .taken in
+    let test = c .before in
+    let m : List ℕ = test .before .before .args .message .now in
+    let l = test .if1 .taken in
     (c .too-long .ensures .0 ∙ sym (number-refused m (omega arith)), c .too-long .ensures .1 ∙ sym (digest-refused m (omega arith)))
 
 returns-2 : tie.Need-returns-2
 unfolding sha256 initial256 family32
 returns-2 c =
-    let m : List ℕ = c .before .before .before .before .args .message .now in
-    let l = c .before .before .if1 .left in (
+    let test = c .before .before in
+    let m : List ℕ = test .before .before .args .message .now in
+    let l = test .if1 .left in (
       sym (number-accepted m l),
       c .digest .ensures ∙ digest-all family32 _ 32 refl ∙ digest-whole family32 (omega arith) initial256 32 m ∙ sym (digest-accepted m l),
     )

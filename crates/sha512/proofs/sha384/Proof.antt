@@ -21,10 +21,12 @@ slice-aggregate-put-2 c =
 returns : tie.Need-returns
 unfolding sha384 initial384 family64
 returns c =
-    let m : List ℕ = c .before .before .before .before .before .before .before .args .message .now in
-    let whole : List ℕ = c .before .before .before .before .digest .result in
-    let cut : take 48 whole ≡ sha384 m = ap (take 48) (c .before .before .before .before .digest .ensures) ∙ digest-whole family64 (omega arith) initial384 48 m in
-    c .before .put .ensures ∙ pasted-whole (replicate 48 0) (take 48 whole) (ap length cut ∙ sha384-length m) ∙ cut
+    let stored = c .before in
+    let hashed = stored .before .before .before in
+    let m : List ℕ = hashed .before .before .before .args .message .now in
+    let whole : List ℕ = hashed .digest .result in
+    let cut : take 48 whole ≡ sha384 m = ap (take 48) (hashed .digest .ensures) ∙ digest-whole family64 (omega arith) initial384 48 m in
+    stored .put .ensures ∙ pasted-whole (replicate 48 0) (take 48 whole) (ap length cut ∙ sha384-length m) ∙ cut
 
 pub sha384-spec : {M : Type 1} → statement M
 sha384-spec = tie.close

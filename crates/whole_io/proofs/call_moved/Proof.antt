@@ -39,13 +39,15 @@ module _ (s : tie.Start) where
 
 returns : tie.Need-returns
 returns c =
-    let s = c .before .before in
-    sym (ap failedBy (is-eintr (s .args .error) (s .fits .error) (c .if2 .taken))) ∙ failed s (c .before .if1 .taken)
+    let below = c .before in
+    let s = below .before in
+    sym (ap failedBy (is-eintr (s .args .error) (s .fits .error) (c .if2 .taken))) ∙ failed s (below .if1 .taken)
 
 returns-2 : tie.Need-returns-2
 returns-2 c =
-    let s = c .before .before in
-    sym (ap failedBy (not-eintr (s .args .error) (c .if2 .left))) ∙ failed s (c .before .if1 .taken)
+    let below = c .before in
+    let s = below .before in
+    sym (ap failedBy (not-eintr (s .args .error) (c .if2 .left))) ∙ failed s (below .if1 .taken)
 
 cast-n : tie.Need-cast-n
 cast-n c =
@@ -56,19 +58,28 @@ cast-n c =
     )
 
 returns-3 : tie.Need-returns-3
-returns-3 c = nothing (c .before .before) (c .before .if1 .left) (c .if3 .taken)
+returns-3 c = let counted = c .before in nothing (counted .before) (counted .if1 .left) (c .if3 .taken)
+
+-- some bytes came: what came in, and what is said of it
+abbrev inputs : tie.Else3 → tie.Start
+inputs c = c .before .before
+
+brought : (c : tie.Else3) → let s = inputs c in Is s (Bytes (min (natAbs (read s)) (s .args .room)))
+brought c = bytes (inputs c) (c .before .if1 .left) (c .if3 .left)
 
 returns-4 : tie.Need-returns-4
 returns-4 c =
-    let s = c .before .before .before in
+    let some = c .before in
+    let s = inputs some in
     let h : natAbs (read s) ≤ s .args .room = omega arith in
-    ap Bytes (sym (min-eq-left h)) ∙ bytes s (c .before .before .if1 .left) (c .before .if3 .left)
+    ap Bytes (sym (min-eq-left h)) ∙ brought some
 
 returns-5 : tie.Need-returns-5
 returns-5 c =
-    let s = c .before .before .before in
+    let some = c .before in
+    let s = inputs some in
     let h : s .args .room ≤ natAbs (read s) = omega arith in
-    ap Bytes (sym (min-eq-right h)) ∙ bytes s (c .before .before .if1 .left) (c .before .if3 .left)
+    ap Bytes (sym (min-eq-right h)) ∙ brought some
 
 pub call-moved-spec : {M : Type 1} → statement M
 call-moved-spec = tie.close (tie.spec returns returns-2 cast-n returns-3 returns-4 returns-5)

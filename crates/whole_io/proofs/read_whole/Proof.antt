@@ -1,6 +1,5 @@
 use Prim.Native.Nat.{_+_, _-_, _≤_}
 use mathlib.Core.Path.{_≡_, refl}
-use native.Mathlib.Omega.{arith}
 use borrow.Author.Needs.{needs}
 use lib.ListN.{length}
 use Rattle.whole_io.proofs.TransferLaws.{again-nearer, over-within}
@@ -13,18 +12,20 @@ Inv-loop fd buffer₀ len done₀ interruptions₀ buffer done interruptions = (
 abbrev μ-loop : tie.MeasureT-loop
 μ-loop fd buffer₀ len done₀ interruptions₀ buffer done interruptions = len - done + interruptions
 
+-- the step, seen from where it goes on
+abbrev stepped : tie.After-next Inv-loop μ-loop → tie.After-step-after Inv-loop μ-loop
+stepped c = c .before .before
+
 loop-less : tie.Need-loop-less Inv-loop μ-loop
-loop-less c =
-    let n = again-nearer _ _ _ _ _ _ _ _ (search needs) (c .before .before .before .step-after .ensures) (c .before .next .given .1) in
-    omega (arith, n .nearer, n .most)
+loop-less c = let told = c .before in again-nearer _ _ _ _ _ (search needs) (stepped told .step-after .ensures) (told .next .given .1) .nearer
 
 loop-again : tie.Need-loop-again Inv-loop μ-loop
-loop-again c =
-    let n = again-nearer _ _ _ _ _ _ _ _ (search needs) (c .before .before .before .step-after .ensures) (c .before .next .given .1) in
-    (refl, search needs, omega (arith, n .most))
+loop-again c = let told = c .before in (refl, search needs, again-nearer _ _ _ _ _ (search needs) (stepped told .step-after .ensures) (told .next .given .1) .within)
 
 returns : tie.Need-returns Inv-loop μ-loop
-returns c = (over-within _ _ _ _ _ _ _ _ (search needs) (search needs) (c .before .before .before .step-after .ensures) (c .before .next2 .given .1), search needs)
+returns c =
+    let told = c .before in
+    (over-within _ _ _ _ _ (search needs) (told .before .before .step-after .ensures) (search needs) (told .next2 .given .1), search needs)
 
 pub read-whole-spec : {M : Type 1} → statement M
 read-whole-spec =

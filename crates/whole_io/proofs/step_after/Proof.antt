@@ -15,7 +15,7 @@ use Rattle.whole_io.proofs.step_after.Tie as tie
 
 -- what the call says, by the definition
 abbrev said : tie.After-call-moved → Moved
-said c = movedBy (c .before .args .got) (c .before .args .error) (c .before .args .len - c .before .args .done)
+said c = let a = c .before .args in movedBy (a .got) (a .error) (a .len - a .done)
 
 -- the answer and errno are handed on by their bits, which are theirs
 handed-on : (c : tie.After-call-moved) → c .call-moved .result ≡ said c
@@ -27,22 +27,35 @@ is : (c : tie.After-call-moved) (m : Moved) → c .call-moved .result ≡ m → 
 is c m e = sym (handed-on c) ∙ e
 
 -- the step after a call that says m
-step : (c : tie.After-call-moved) (m : Moved) → c .call-moved .result ≡ m → stepAfter m (c .before .args .done) (c .before .args .interruptions) ≡ stepAfter (said c) (c .before .args .done) (c .before .args .interruptions)
-step c m e = ap (λ (n : Moved). stepAfter n (c .before .args .done) (c .before .args .interruptions)) (sym (is c m e))
+step : (c : tie.After-call-moved) (m : Moved) → c .call-moved .result ≡ m
+    → let a = c .before .args in
+    stepAfter m (a .done) (a .interruptions) ≡ stepAfter (said c) (a .done) (a .interruptions)
+step c m e = let a = c .before .args in ap (λ (n : Moved). stepAfter n (a .done) (a .interruptions)) (sym (is c m e))
+
+-- the call, seen from where it brought bytes and from where it was interrupted
+abbrev brought : tie.After-call → tie.After-call-moved
+brought c = c .before .before
+
+abbrev interrupted : tie.After-enum-told2 → tie.After-call-moved
+interrupted c = c .before .before
 
 add-t10 : tie.Need-add-t10
 add-t10 c =
-    let s = c .before .before .before .before in
-    record { fits = omega (arith, bytes-most (s .args .got) (s .args .error) (s .args .len - s .args .done) (c .before .call .given .0 .0) (is (c .before .before .before) (Moved.Bytes (c .before .call .given .0 .0)) (c .before .call .given .1))) }
+    let told = c .before in
+    let n = told .call .given .0 .0 in
+    let a = brought told .before .args in
+    record { fits = omega (arith, bytes-most (a .got) (a .error) (a .len - a .done) n (is (brought told) (Moved.Bytes n) (told .call .given .1))) }
 
 returns : tie.Need-returns
 unfolding stepAfter
 returns c =
-    sym (ap (stepAfter Moved.Interrupted (c .before .before .before .before .args .done)) (c .if1 .taken)) ∙ step (c .before .before .before) Moved.Interrupted (c .before .enum-told2 .given .1)
+    let told = c .before in
+    let call = interrupted told in
+    sym (ap (stepAfter Moved.Interrupted (call .before .args .done)) (c .if1 .taken)) ∙ step call Moved.Interrupted (told .enum-told2 .given .1)
 
 returns-2 : tie.Need-returns-2
 unfolding stepAfter
-returns-2 c = step (c .before .before .before) (Moved.Bytes (c .before .call .given .0 .0)) (c .before .call .given .1)
+returns-2 c = let told = c .before in step (brought told) (Moved.Bytes (told .call .given .0 .0)) (told .call .given .1)
 
 returns-3 : tie.Need-returns-3
 unfolding stepAfter
@@ -50,8 +63,10 @@ returns-3 c = step (c .before .before) Moved.Nothing (c .enum-told .given .1)
 
 returns-4 : tie.Need-returns-4
 returns-4 c =
-    let s = c .before .before .before .before in
-    sym (interrupted-again (s .args .done) (s .args .interruptions) (c .if1 .left)) ∙ step (c .before .before .before) Moved.Interrupted (c .before .enum-told2 .given .1)
+    let told = c .before in
+    let call = interrupted told in
+    let a = call .before .args in
+    sym (interrupted-again (a .done) (a .interruptions) (c .if1 .left)) ∙ step call Moved.Interrupted (told .enum-told2 .given .1)
 
 returns-5 : tie.Need-returns-5
 unfolding stepAfter

@@ -13,15 +13,15 @@ Inv-loop fd bytes len done₀ interruptions₀ done interruptions = (len ≡ len
 abbrev μ-loop : tie.MeasureT-loop
 μ-loop fd bytes len done₀ interruptions₀ done interruptions = len - done + interruptions
 
+-- the step, seen from where it goes on
+abbrev stepped : tie.After-next Inv-loop μ-loop → tie.After-step-after Inv-loop μ-loop
+stepped c = c .before .before
+
 loop-less : tie.Need-loop-less Inv-loop μ-loop
-loop-less c =
-    let n = again-nearer _ _ _ _ _ _ _ _ (search needs) (c .before .before .before .step-after .ensures) (c .before .next .given .1) in
-    omega (arith, n .nearer, n .most)
+loop-less c = let told = c .before in again-nearer _ _ _ _ _ (search needs) (stepped told .step-after .ensures) (told .next .given .1) .nearer
 
 loop-again : tie.Need-loop-again Inv-loop μ-loop
-loop-again c =
-    let n = again-nearer _ _ _ _ _ _ _ _ (search needs) (c .before .before .before .step-after .ensures) (c .before .next .given .1) in
-    (refl, omega (arith, n .most))
+loop-again c = let told = c .before in (refl, again-nearer _ _ _ _ _ (search needs) (stepped told .step-after .ensures) (told .next .given .1) .within)
 
 -- a call is made only where a byte is left
 returns : tie.Need-returns Inv-loop μ-loop

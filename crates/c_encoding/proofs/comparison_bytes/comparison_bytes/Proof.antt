@@ -23,17 +23,21 @@ loop-holds c =
 
 loop-again : tie.Need-loop-again Inv-loop μ-loop
 loop-again c =
-    let l = c .before .before .before .before .before .before .before .loop in
-    let pmrs : List PmrComparison = c .before .before .before .before .before .before .before .before .args .t1 in
+    let written = c .before in
+    let made = written .before .before .before in
+    let turn = made .before .before .before in
+    let l = turn .loop in
+    let pmrs : List PmrComparison = turn .before .args .t1 in
     let five : length pmrs ≡ 5 = search needs in
-    let one : length (c .before .before .before .before .pmr-bytes .result) ≡ pmrComparisonLength = search needs in
-    put-more pmrComparisonBytes pmrComparisonLength [] pmrs (l .bytes) (l .p) (l .inv) _ (c .before .before .before .before .pmr-bytes .result) _ _
-    (omega arith) one (c .before .before .before .before .pmr-bytes .ensures) (omega arith) (c .before .put .ensures)
+    let one : length (made .pmr-bytes .result) ≡ pmrComparisonLength = search needs in
+    put-more pmrComparisonBytes pmrComparisonLength [] pmrs (l .bytes) (l .p) (l .inv) _ (made .pmr-bytes .result) _ _ (omega arith) one (made .pmr-bytes .ensures)
+    (omega arith) (written .put .ensures)
 
 returns : tie.Need-returns Inv-loop μ-loop
 returns c =
-    let l = c .before .loop in
-    let pmrs : List PmrComparison = c .before .before .args .t1 in
+    let ended = c .before in
+    let l = ended .loop in
+    let pmrs : List PmrComparison = ended .before .args .t1 in
     let five : length pmrs ≡ 5 = search needs in
     put-all pmrComparisonBytes pmrComparisonLength [] pmrs (l .bytes) (l .p) (l .inv) (omega arith)
 

@@ -8,13 +8,16 @@ use Rattle.cerberus.proofs.binding.cerberus_certificate_slots.Tie as ti
 
 returns : tie.Need-returns
 returns c =
-    let lowest = sym (ap slotNumber (sym (c .before .before .lowest .ensures) ∙ ap lowestOf (c .enum-told .given .1))) in
-    λ i. outcome 0 (c .before .before .before .chain-count .ensures i, lowest i)
+    let asked = c .before .before in
+    let lowest = sym (ap slotNumber (sym (asked .lowest .ensures) ∙ ap lowestOf (c .enum-told .given .1))) in
+    λ i. outcome 0 (asked .before .chain-count .ensures i, lowest i)
 
 returns-2 : tie.Need-returns-2
 returns-2 c =
-    let lowest = sym (ap slotNumber (sym (c .before .before .before .lowest .ensures) ∙ ap lowestOf (c .before .first .given .1))) in
-    λ i. outcome 0 (c .before .before .before .before .chain-count .ensures i, lowest i)
+    let found = c .before in
+    let asked = found .before .before in
+    let lowest = sym (ap slotNumber (sym (asked .lowest .ensures) ∙ ap lowestOf (found .first .given .1))) in
+    λ i. outcome 0 (asked .before .chain-count .ensures i, lowest i)
 
 pub cerberus-certificate-slots-spec : {M : Type 1} → statement M
 cerberus-certificate-slots-spec =

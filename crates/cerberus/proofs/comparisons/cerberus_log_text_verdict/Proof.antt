@@ -5,7 +5,9 @@ use Rattle.cerberus.proofs.comparisons.cerberus_log_text_verdict.Statem
 use Rattle.cerberus.proofs.comparisons.cerberus_log_text_verdict.Tie as tie
 
 returns : tie.Need-returns
-returns c = c .number .ensures ∙ answer-number (c .before .before .before .args .text .now) (c .before .check-text .result) (c .before .check-text .ensures)
+returns c =
+    let checked = c .before in
+    c .number .ensures ∙ answer-number (checked .before .before .args .text .now) (checked .check-text .result) (checked .check-text .ensures)
 
 pub cerberus-log-text-verdict-spec : {M : Type 1} → statement M
 cerberus-log-text-verdict-spec = tie.close

@@ -1,12 +1,16 @@
 use mathlib.Core.Path.{_∙_}
-use borrow.Author.Needs.{needs}
 use denote.Ref.{now}
 use Rattle.attestation_log.specs.Calls.{checkStep}
+use borrow.Author.Needs.{needs}
 use Rattle.cerberus.proofs.log.cerberus_log_check.Statement.{statement}
 use Rattle.cerberus.proofs.log.cerberus_log_check.Tie as tie
 
 returns : tie.Need-returns
-returns c = c .number .ensures ∙ c .before .check .ensures ∙ λ i. checkStep (c .before .before .log-of .ensures i) (now (c .before .before .before .before .before .args .buffer)) .number
+returns c =
+    let checked = c .before in
+    let state = checked .before in
+    let buffer = now (state .before .before .before .args .buffer) in
+    c .number .ensures ∙ checked .check .ensures ∙ λ i. checkStep (state .log-of .ensures i) buffer .number
 
 pub cerberus-log-check-spec : {M : Type 1} → statement M
 cerberus-log-check-spec = tie.close

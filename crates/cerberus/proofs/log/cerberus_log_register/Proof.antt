@@ -1,6 +1,7 @@
 use Prim.Native.Nat.{ℕ, _<_}
-use native.Mathlib.Omega.{arith}
 use mathlib.Core.Path.{_≡_, sym, ap, _∙_, subst}
+use mathlib.Core.List.{List}
+use native.Mathlib.Omega.{arith}
 use Rattle.refusal.specs.Steps.{outcome}
 use Rattle.refusal.proofs.Steps.{decided-yes, decided-no}
 use Rattle.attestation_log.specs.State.{State}
@@ -13,21 +14,44 @@ use borrow.Author.Needs.{needs}
 use Rattle.cerberus.proofs.log.cerberus_log_register.Statement.{statement}
 use Rattle.cerberus.proofs.log.cerberus_log_register.Tie as tie
 
+-- what came in, from where the register was read: the state, the PMR and the buffer
+abbrev inputs : tie.After-register → tie.Start
+inputs c = c .before .before .before .before
+
+abbrev state : tie.After-register → State
+state c = logOf (inputs c .args .log .now)
+
+abbrev pmr : tie.After-register → ℕ
+pmr c = inputs c .args .pmr
+
+abbrev buffer : tie.After-register → List ℕ
+buffer c = inputs c .args .buffer .now
+
+-- the number is that of the step
+numbered : (c : tie.After-number) → c .number .result ≡ registerStep (pmr (c .before)) (state (c .before)) (buffer (c .before)) .number
+numbered c =
+    let read = c .before in
+    c .number .ensures
+    ∙ read .register .ensures .0
+    ∙ ap (λ (s : State). registerStep (pmr read) s (buffer read) .number) (read .before .log-of .ensures)
+
 returns : tie.Need-returns
 returns c =
-    let a = c .before .before .before .before .before .before .args in
-    let n = c .before .number .ensures ∙ c .before .before .register .ensures .0 ∙ ap (λ (s : State). registerStep (a .pmr) s (a .buffer .now) .number) (c .before .before .before .log-of .ensures) in
-    told (decided-no (a .value .now) _ (subst (λ (n : ℕ). 0 < n) n (c .if1 .taken))) n
+    let n = numbered (c .before) in
+    told (decided-no _ _ (subst (λ (n : ℕ). 0 < n) n (c .if1 .taken))) n
 
 returns-2 : tie.Need-returns-2
 returns-2 c =
-    let a = c .before .before .before .before .before .before .before .args in
-    let s : State = logOf (a .log .now) in
-    let n = c .before .before .number .ensures ∙ c .before .before .before .register .ensures .0 ∙ ap (λ (s : State). registerStep (a .pmr) s (a .buffer .now) .number) (c .before .before .before .before .log-of .ensures) in
-    let none : c .before .before .number .result ≡ 0 = omega (arith, c .before .if1 .left) in
-    let yes = sym n ∙ none in
-    let bytes = c .before .before .before .register .ensures .1 ∙ ap (λ (s : State). registerBytes (a .pmr) s (a .buffer .now)) (c .before .before .before .before .log-of .ensures) ∙ register-shown (a .pmr) s (a .buffer .now) yes in
-    (λ i. outcome (none i) (bytes i)) ∙ decided-yes (a .value .now) _ yes
+    let accepted = c .before in
+    let named = accepted .before in
+    let read = named .before in
+    let none : named .number .result ≡ 0 = omega (arith, accepted .if1 .left) in
+    let yes = sym (numbered named) ∙ none in
+    let bytes =
+    read .register .ensures .1
+    ∙ ap (λ (s : State). registerBytes (pmr read) s (buffer read)) (read .before .log-of .ensures)
+    ∙ register-shown (pmr read) (state read) (buffer read) yes in
+    (λ i. outcome (none i) (bytes i)) ∙ decided-yes (inputs read .args .value .now) _ yes
 
 pub cerberus-log-register-spec : {M : Type 1} → statement M
 cerberus-log-register-spec =

@@ -1,7 +1,7 @@
-use Rattle.c_encoding.specs.Logs.{logOf, CLog, cLog}
-use Rattle.c_encoding.proofs.Logs.{log-stored}
 use Rattle.attestation_log.specs.State.{noState}
 use Rattle.attestation_log.specs.Calls.{resetStep}
+use Rattle.c_encoding.specs.Logs.{logOf, CLog, cLog}
+use Rattle.c_encoding.proofs.Logs.{log-stored}
 use borrow.Author.Needs.{needs}
 use Rattle.cerberus.proofs.log.cerberus_log_reset.Statement.{statement}
 use Rattle.cerberus.proofs.log.cerberus_log_reset.Tie as tie
@@ -9,9 +9,10 @@ use Rattle.cerberus.proofs.log.cerberus_log_reset.Tie as tie
 returns : tie.Need-returns
 unfolding resetStep
 returns c =
-    let a = c .before .before .before .before .before .before .before .args in
+    let called = c .before .before .before .before in
+    let a = called .before .before .before .args in
     let k : CLog = cLog (a .log .now) (a .buffer .now) in
-    log-stored k noState (c .before .before .before .before .reset .result) (logOf (k .bytes)) _ _ (c .before .before .before .before .reset .ensures) (c .store .ensures)
+    log-stored k noState (called .reset .result) (logOf (k .bytes)) _ _ (called .reset .ensures) (c .store .ensures)
 
 pub cerberus-log-reset-spec : {M : Type 1} → statement M
 cerberus-log-reset-spec = tie.close

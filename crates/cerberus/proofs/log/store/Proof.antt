@@ -1,5 +1,5 @@
 use mathlib.Core.Path.{refl}
-use Rattle.cerberus.proofs.Answers.{told-refused, told-accepted}
+use Rattle.refusal.proofs.Steps.{told-refused, told-accepted}
 use borrow.Author.Needs.{needs}
 use Rattle.cerberus.proofs.log.store.Statement.{statement}
 use Rattle.cerberus.proofs.log.store.Tie as tie

@@ -12,9 +12,11 @@ use Rattle.cerberus.proofs.slots.cerberus_slot_prepare.Tie as tie
 
 returns : tie.Need-returns
 returns c =
-    let a = c .before .before .before .before .before .before .before .args in
+    let called = c .before .before in
+    let slot = called .before in
+    let a = slot .before .before .before .before .args in
     let k : CSlot = cSlot (a .slot .now) (a .pending .now) (a .active .now) in
-    let is = c .before .before .prepare .ensures ∙ ap (λ (s : Slot). prepareStep (a .total) (held s (k .pending) (k .active))) (c .before .before .before .slot-of .ensures) in
+    let is = called .prepare .ensures ∙ ap (λ (s : Slot). prepareStep (a .total) (held s (k .pending) (k .active))) (slot .slot-of .ensures) in
     slot-stored k (prepareStep (a .total)) (step-keeps (prepare (a .total)) (heldIn k)) is (c .store .ensures)
 
 pub cerberus-slot-prepare-spec : {M : Type 1} → statement M

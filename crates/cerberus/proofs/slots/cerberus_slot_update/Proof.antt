@@ -12,9 +12,11 @@ use Rattle.cerberus.proofs.slots.cerberus_slot_update.Tie as tie
 
 returns : tie.Need-returns
 returns c =
-    let a = c .before .before .before .before .before .before .before .before .before .before .before .args in
+    let called = c .before .before .before .before in
+    let slot = called .before .before in
+    let a = slot .before .before .before .before .before .args in
     let k : CSlot = cSlot (a .slot .now) (a .pending .now) (a .active .now) in
-    let is = c .before .before .before .before .update .ensures ∙ ap (λ (s : Slot). updateStep (a .payload .now) (held s (k .pending) (k .active))) (c .before .before .before .before .before .before .slot-of .ensures) in
+    let is = called .update .ensures ∙ ap (λ (s : Slot). updateStep (a .payload .now) (held s (k .pending) (k .active))) (slot .slot-of .ensures) in
     slot-stored k (updateStep (a .payload .now)) (step-keeps (update (a .payload .now)) (heldIn k)) is (c .store .ensures)
 
 pub cerberus-slot-update-spec : {M : Type 1} → statement M

@@ -1,16 +1,17 @@
-use mathlib.Core.Path.{refl}
-use Rattle.cerberus.proofs.Answers.{told-refused, told-accepted}
+use Rattle.cerberus.proofs.Answers.{stopped, passed}
 use borrow.Author.Needs.{needs}
 use Rattle.cerberus.proofs.slots.store.Statement.{statement}
 use Rattle.cerberus.proofs.slots.store.Tie as tie
 
 returns : tie.Need-returns
-returns c = told-refused _ _ refl (c .before .before .verdict .given .1) (c .number .ensures)
+returns c = stopped _ _ (c .before .number .ensures) (c .if1 .taken)
 
 returns-2 : tie.Need-returns-2
-returns-2 c = told-accepted _ _ refl (c .before .before .enum-told .given .1) (c .numbers-of .ensures)
+returns-2 c =
+    let accepted = c .before .before in
+    passed _ _ (accepted .before .number .ensures) (accepted .if1 .left) (c .numbers-of .ensures)
 
 pub store-spec : {M : Type 1} → statement M
 store-spec =
     tie.close
-    (tie.spec (λ c. search needs) (λ c κs. search needs) (λ c. search needs) (λ c κs. search needs) returns returns-2)
+    (tie.spec (λ c κs. search needs) returns (λ c κs. search needs) returns-2)

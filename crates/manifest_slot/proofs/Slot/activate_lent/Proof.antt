@@ -1,26 +1,26 @@
-use mathlib.Core.Path.{ap, _∙_}
-use Rattle.refusal.proofs.Steps.{decided-refused, decided-accepted}
-use Prim.Native.Nat.{ℕ}
-use lib.ListN.{take}
-use Rattle.octets.specs.Octets.{replacedBy}
-use Rattle.manifest_slot.specs.Slot.{held}
+use mathlib.Core.Path.{_∙_}
+use Rattle.refusal.proofs.Steps.{decided-refused}
 use Rattle.manifest_slot.specs.Calls.{activateLent}
-use Rattle.manifest_slot.proofs.Rules.{refused-is}
+use Rattle.manifest_slot.proofs.Answers.{refused-is, activate-done}
 use borrow.Author.Needs.{needs}
 use Rattle.manifest_slot.proofs.Slot.activate_lent.Statement.{statement}
 use Rattle.manifest_slot.proofs.Slot.activate_lent.Tie as tie
 
 returns : tie.Need-returns
 unfolding activateLent
-returns c = refused-is (held (c .before .before .before .before .before .before .args .self) (c .before .before .before .before .before .before .args .pending .now) (c .before .before .before .before .before .before .args .active .now)) (c .refused .ensures) ∙ decided-refused _ _ (c .before .before .before .activate-verdict .ensures) (c .before .enum-told .given .1)
+returns c =
+    let told = c .before in
+    refused-is _ _ (c .refused .ensures) ∙ decided-refused _ _ (told .before .before .activate-verdict .ensures) (told .enum-told .given .1)
 
+-- from the slot that is answered back to the verdict: the copy, what was copied, how much, and that the verdict accepted
 returns-2 : tie.Need-returns-2
-unfolding activateLent
 returns-2 c =
-    let a = c .before .before .before .before .before .before .before .before .before .before .before .before .args in
-    let part = c .before .before .before .before .front .ensures ∙ ap (λ (n : ℕ). take n (a .pending .now)) (c .before .before .before .before .before .before .total .ensures) in
-    let active = c .before .before .before .replace .ensures ∙ ap (replacedBy (a .active .now)) part in
-    decided-accepted _ _ (c .before .before .before .before .before .before .before .before .before .activate-verdict .ensures) (c .before .before .before .before .before .before .before .enum-told2 .given .1) (λ i. held (c .activated .ensures i) (a .pending .now) (active i))
+    let copied = c .before .before .before in
+    let part = copied .before in
+    let total = part .before .before in
+    let told = total .before in
+    activate-done _ _ (told .before .before .activate-verdict .ensures) (told .enum-told2 .given .1)
+    (total .total .ensures) (part .front .ensures) (copied .replace .ensures) (c .activated .ensures)
 
 pub activate-lent-spec : {M : Type 1} → statement M
 activate-lent-spec =

@@ -1,33 +1,31 @@
-use mathlib.Core.Path.{ap, _∙_}
-use Rattle.refusal.proofs.Steps.{first-refused, first-passed}
-use Rattle.refusal.specs.Rules.{first_then_}
-use Rattle.refusal.specs.Steps.{decided}
-use Prim.Native.Nat.{ℕ}
-use lib.ListN.{length}
-use Rattle.manifest_slot.specs.Slot.{Held, held}
-use Rattle.manifest_slot.specs.Calls.{updateRule, updated, updateLent, updateStep}
-use Rattle.manifest_slot.proofs.Rules.{update-chain, refused-is}
+use mathlib.Core.Path.{_∙_}
+use Rattle.manifest_slot.proofs.Answers.{refused-is, update-refused, update-passed}
 use borrow.Author.Needs.{needs}
 use Rattle.manifest_slot.proofs.Slot.update.Statement.{statement}
 use Rattle.manifest_slot.proofs.Slot.update.Tie as tie
 
+-- ---- the ways back, from the verdict to the two that it puts together
+
+abbrev length-judged : tie.After-first → tie.After-length-verdict
+length-judged c = c .before
+
+abbrev lent-judged : tie.After-first → tie.After-lent-verdict
+lent-judged c = length-judged c .before
+
 returns : tie.Need-returns
-unfolding updateStep
 returns c =
-    let a = c .before .before .before .before .before .before .before .before .before .before .args in
-    let payload = a .payload .now in
-    let h : Held = held (a .self) (a .pending .now) (a .active .now) in
-    let asked = c .before .before .before .first .ensures ∙ (λ i. first c .before .before .before .before .before .lent-verdict .ensures i then c .before .before .before .before .length-verdict .ensures i) in
-    refused-is h (c .refused .ensures) ∙ first-refused (updateRule (h .slot .transfer) (length payload)) h (updated payload h) asked (c .before .enum-told .given .1) ∙ ap (λ (n : ℕ). decided n h (updated payload h)) (update-chain payload h)
+    let told = c .before in
+    let verdict = told .before .before in
+    refused-is _ _ (c .refused .ensures)
+    ∙ update-refused _ _ (lent-judged verdict .lent-verdict .ensures) (length-judged verdict .length-verdict .ensures) (verdict .first .ensures) (told .enum-told .given .1)
 
 returns-2 : tie.Need-returns-2
-unfolding updateLent updateStep
 returns-2 c =
-    let a = c .before .before .before .before .before .before .before .before .before .before .before .before .before .args in
-    let payload = a .payload .now in
-    let h : Held = held (a .self) (a .pending .now) (a .active .now) in
-    let asked = c .before .before .before .before .before .before .first .ensures ∙ (λ i. first c .before .before .before .before .before .before .before .before .lent-verdict .ensures i then c .before .before .before .before .before .before .before .length-verdict .ensures i) in
-    first-passed h (updated payload h) asked (c .before .before .before .before .enum-told2 .given .1) (c .before .before .update-lent .ensures (h .active)) ∙ ap (λ (n : ℕ). decided n h (updated payload h)) (update-chain payload h)
+    let done = c .before .before in
+    let told = done .before .before in
+    let verdict = told .before .before in
+    update-passed _ _ (lent-judged verdict .lent-verdict .ensures) (length-judged verdict .length-verdict .ensures) (verdict .first .ensures) (told .enum-told2 .given .1)
+    (done .update-lent .ensures _)
 
 pub update-spec : {M : Type 1} → statement M
 update-spec =

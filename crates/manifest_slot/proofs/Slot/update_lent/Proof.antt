@@ -1,30 +1,36 @@
-use mathlib.Core.Path.{ap, _∙_}
-use Rattle.refusal.proofs.Steps.{decided-refused, decided-accepted}
-use Prim.Native.Nat.{ℕ}
-use lib.ListN.{length}
-use Rattle.refusal.proofs.Laws.{says-yes}
-use Rattle.octets.specs.Octets.{pasted}
-use Rattle.manifest_slot.specs.declared.Transfer.{Transfer}
-use Rattle.manifest_slot.specs.Slot.{transferring, held}
+use mathlib.Core.Path.{_∙_}
+use Rattle.refusal.proofs.Steps.{decided-refused}
 use Rattle.manifest_slot.specs.Calls.{updateLent}
-use Rattle.manifest_slot.proofs.Accepted.{payload-accepted}
-use Rattle.manifest_slot.proofs.Rules.{refused-is}
+use Rattle.manifest_slot.proofs.Answers.{refused-is, update-done}
 use borrow.Author.Needs.{needs}
 use Rattle.manifest_slot.proofs.Slot.update_lent.Statement.{statement}
 use Rattle.manifest_slot.proofs.Slot.update_lent.Tie as tie
 
+-- ---- the ways back, from where all was counted to each call before
+
+abbrev counted : tie.After-transferring → tie.After-advanced
+counted c = c .before
+
+abbrev received : tie.After-transferring → tie.After-received
+received c = counted c .before
+
+abbrev verdict : tie.After-transferring → tie.After-payload-verdict
+verdict c = received c .before
+
 returns : tie.Need-returns
 unfolding updateLent
-returns c active = refused-is (held (c .before .before .before .before .before .before .before .before .before .args .self) (c .before .before .before .before .before .before .before .before .before .args .pending .now) active) (c .refused .ensures) ∙ decided-refused _ _ (c .before .before .before .before .before .before .payload-verdict .ensures) (c .before .enum-told .given .1)
+returns c active =
+    let told = c .before in
+    let asked = told .before .before in
+    refused-is _ _ (c .refused .ensures) ∙ decided-refused _ _ (verdict asked .payload-verdict .ensures) (told .enum-told .given .1)
 
 returns-2 : tie.Need-returns-2
-unfolding updateLent
 returns-2 c active =
-    let a = c .before .before .before .before .before .before .before .before .before .before .before .before .args in
-    let few = payload-accepted (a .self .transfer) (length (a .payload .now)) (says-yes (c .before .before .before .before .before .before .before .before .before .payload-verdict .ensures) (c .before .before .before .before .enum-told2 .given .1)) .0 in
-    let next = c .before .before .before .before .before .before .transferring .ensures ∙ ap (λ (t : Transfer). transferring (a .self) t) (c .before .before .before .before .before .before .before .advanced .ensures few) in
-    let pending = c .before .before .put .ensures ∙ ap (λ (n : ℕ). pasted (a .pending .now) n (a .payload .now)) (c .before .before .before .before .before .before .before .before .received .ensures) in
-    decided-accepted _ _ (c .before .before .before .before .before .before .before .before .before .payload-verdict .ensures) (c .before .before .before .before .enum-told2 .given .1) (λ i. held (next i) (pending i) active)
+    let written = c .before .before in
+    let told = written .before .before in
+    let asked = told .before .before in
+    update-done _ _ (verdict asked .payload-verdict .ensures) (told .enum-told2 .given .1)
+    (received asked .received .ensures) (counted asked .advanced .ensures) (asked .transferring .ensures) (written .put .ensures)
 
 pub update-lent-spec : {M : Type 1} → statement M
 update-lent-spec =

@@ -8,7 +8,7 @@ returns : tie.Need-returns
 returns c = sym (ap (λ (d : Bool). d && c .before .args .self .ok) (c .if1 .taken))
 
 returns-2 : tie.Need-returns-2
-returns-2 c = sym (ap (λ (d : Bool). d && c .before .before .before .args .self .ok) (c .before .before .if1 .left))
+returns-2 c = let failed = c .before .before in sym (ap (λ (d : Bool). d && failed .before .args .self .ok) (failed .if1 .left))
 
 pub outcome-spec : {M : Type 1} → statement M
 outcome-spec = tie.close (tie.spec returns (λ c. search needs) (λ c κs. search needs) returns-2)

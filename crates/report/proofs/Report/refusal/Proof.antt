@@ -3,7 +3,11 @@ use Rattle.report.proofs.Report.refusal.Statement.{statement}
 use Rattle.report.proofs.Report.refusal.Tie as tie
 
 returns : tie.Need-returns
-returns c = λ failed. c .text2 .ensures .0 (c .before .before .front .ensures (c .before .before .before .before .text .ensures .0 (c .before .before .before .before .before .before .decimal .ensures failed)))
+returns c =
+    let meaning = c .before .before in
+    let label = meaning .before .before in
+    let number = label .before .before in
+    λ failed. c .text2 .ensures .0 (meaning .front .ensures (label .text .ensures .0 (number .decimal .ensures failed)))
 
 pub refusal-spec : {M : Type 1} → statement M
 refusal-spec =

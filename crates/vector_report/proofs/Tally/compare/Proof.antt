@@ -6,19 +6,23 @@ use Rattle.vector_report.proofs.Tally.compare.Tie as tie
 
 returns : tie.Need-returns
 returns c =
-    let compared = c .before .before .before in (
+    let tested = c .before .before in
+    let compared = tested .before in (
       compared .before .wrapping-add-u64 .ensures,
-      (agrees _ _ _ _ (compared .same .ensures) (c .before .before .if1 .taken), c .text .ensures .0),
+      (agrees _ _ _ _ (compared .same .ensures) (tested .if1 .taken), c .text .ensures .0),
     )
 
 returns-2 : tie.Need-returns-2
 returns-2 c =
-    let counted = c .before .before .before .before .before in
-    let tested = counted .before in (
-      tested .before .before .wrapping-add-u64 .ensures,
+    let value = c .before .before in
+    let label = value .before in
+    let counted = label .before .before in
+    let tested = counted .before in
+    let compared = tested .before in (
+      compared .before .wrapping-add-u64 .ensures,
       (
-        counted .wrapping-add-u642 .ensures ∙ differs _ _ _ _ (tested .before .same .ensures) (tested .if1 .left),
-        λ failed. c .text3 .ensures .0 (c .before .before .bytes .ensures (c .before .before .before .text2 .ensures .0 failed)),
+        counted .wrapping-add-u642 .ensures ∙ differs _ _ _ _ (compared .same .ensures) (tested .if1 .left),
+        λ failed. c .text3 .ensures .0 (value .bytes .ensures (label .text2 .ensures .0 failed)),
       ),
     )
 

@@ -1,0 +1,4 @@
+pub mod RootCas
+pub mod ByNumber
+pub mod Walks
+pub mod RoundTrips

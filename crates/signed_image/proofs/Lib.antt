@@ -1,0 +1,4 @@
+pub mod Flags
+pub mod Images
+pub mod ByNumber
+pub mod RoundTrips

@@ -1,0 +1,4 @@
+pub mod SignedImage
+pub mod ByNumber
+pub mod Walks
+pub mod RoundTrips
