@@ -18,6 +18,7 @@ pub fn role_verdict(role: u8) -> Verdict
     Verdict::Accepted
 }
 
+// 0 is active. Every other number is read as pending, so that each has a role: those above 1 are `role_verdict`'s to refuse.
 pub fn role_of(role: u8) -> Role
     ensures { λ r. ⌜ r ≡ roleOf role ⌝ }
 {
