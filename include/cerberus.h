@@ -15,8 +15,8 @@
  *   other address.
  * - Pointers to size_t, uint32_t and cerberus_slot are aligned as C aligns
  *   these. Pointers to bytes, to cerberus_pmr_comparison, which is made of bytes,
- *   and to cerberus_log and cerberus_entry, which are read and written as bytes,
- *   may lie anywhere as far as the calls are concerned.
+ *   and to cerberus_log, which is read and written as bytes, may lie anywhere as
+ *   far as the calls are concerned.
  * - What a call writes, be it a buffer, a state or an answer, overlaps nothing
  *   else that the call is lent. What it only reads may overlap.
  * - Nothing else writes to what a call is lent, nor reads what it writes, until
@@ -64,15 +64,14 @@ enum {
     CERBERUS_STALE_VERSION = 9,       /* version id doesn't go forward */
     CERBERUS_BAD_SIGNATURE = 10,      /* the signature was judged bad */
     CERBERUS_NOT_OFFERED = 11,        /* known, but not offered */
-    CERBERUS_MALFORMED_ELEMENT = 12,  /* malformed element */
-    CERBERUS_WRONG_HASH = 13          /* wrong hash */
+    CERBERUS_MALFORMED_ELEMENT = 12   /* malformed element */
 };
 
 /* ---- the refusals' meaning */
 
 /* Puts the meaning of a refusal number, in ASCII, to the front of text and its
  * length into *meaning_len; other bytes of text stay.
- * Refuses: 3 text has under 80 bytes; 5 number is not 1 to 13. */
+ * Refuses: 3 text has under 80 bytes; 5 number is not 1 to 12. */
 uint8_t cerberus_meaning(uint8_t number, uint8_t *text, size_t text_len, size_t *meaning_len);
 
 /* ---- hashes (FIPS 180-4) */
@@ -301,88 +300,6 @@ uint8_t cerberus_header(const uint8_t *message, size_t message_len);
 uint8_t cerberus_command(cerberus_slot *slot, uint8_t signature_good, const uint8_t *message, size_t message_len,
                          uint8_t *pending, size_t pending_len, uint8_t *active, size_t active_len,
                          uint8_t *response, size_t response_len, size_t *written);
-
-/* ---- a manifest's table of contents (document 002)
- *
- * A manifest is lent whole: header, table of contents, elements, signature; its
- * length has 16 bits, so that more than 65,535 bytes are never one. Entries and
- * hashes are numbered from 0. Every call but the writer checks the table first and
- * refuses as cerberus_table_check does; the manifest is only read. */
-
-/* The mark for no parent and for no hash. */
-#define CERBERUS_NONE 0xff
-
-#define CERBERUS_MANIFEST_HEADER_LEN 12
-#define CERBERUS_TABLE_HEAD_LEN 4
-
-/* An entry of the table, one for each element: its 8 bytes as they stand there. */
-typedef struct {
-    uint8_t type_id; /* the element's type */
-    uint8_t parent;  /* the type of its parent, or CERBERUS_NONE */
-    uint8_t format;  /* the version of its format */
-    uint8_t hash_id; /* the number of its hash, or CERBERUS_NONE */
-    uint16_t offset; /* where it begins, from the manifest's start */
-    uint16_t length; /* how many bytes it has */
-} cerberus_entry;
-
-/* Whether the manifest has a sound table. Signature and elements aren't judged.
- * Refuses: 8 under 12 bytes, another length than the header says, or a signature
- * of 0 bytes or more than the length less 12; 12 the table doesn't fit before the
- * signature, a reserved bit or byte of it is set, the hash type is above 2, or an
- * entry breaks a rule; 13 the hash over the table is wrong. An entry breaks a rule
- * where its element begins before the table's end or ends behind the signature's
- * start, shares a byte with another element, has a hash_id other than
- * CERBERUS_NONE that no hash of the table has, or a parent other than
- * CERBERUS_NONE that is the type of no entry before it. */
-uint8_t cerberus_table_check(const uint8_t *manifest, size_t manifest_len);
-
-/* How many entries and hashes the table has, and the type of all its hashes.
- * Refuses: as cerberus_table_check. To walk a manifest that was checked once:
- * entry k is the 8 bytes of manifest from 16 + 8 * k on, hash k the bytes from
- * 16 + 8 * *entry_count + w * k on, where w is 32, 48 or 64 by *hash_type, and the
- * hash over the table stands behind the last hash. */
-uint8_t cerberus_table_read(const uint8_t *manifest, size_t manifest_len,
-                            uint8_t *entry_count, uint8_t *hash_count, uint8_t *hash_type);
-
-/* Entry index. Refuses: as cerberus_table_check; 5 there is no such entry. */
-uint8_t cerberus_table_entry(const uint8_t *manifest, size_t manifest_len, size_t index, cerberus_entry *entry);
-
-/* *parent becomes the number of the entry that is the parent of entry index: of
- * the entries before it with the type that it names the nearest; CERBERUS_NONE if
- * it names none. Refuses: as cerberus_table_entry. */
-uint8_t cerberus_table_parent(const uint8_t *manifest, size_t manifest_len, size_t index, uint8_t *parent);
-
-/* Hash index: the *hash_len bytes of manifest from *offset on.
- * Refuses: as cerberus_table_check; 5 there is no such hash. */
-uint8_t cerberus_table_hash(const uint8_t *manifest, size_t manifest_len, size_t index,
-                            size_t *offset, size_t *hash_len);
-
-/* The element of entry index: the *element_len bytes of manifest from *offset on.
- * Its hash isn't checked. Refuses: as cerberus_table_entry. */
-uint8_t cerberus_table_element(const uint8_t *manifest, size_t manifest_len, size_t index,
-                               size_t *offset, size_t *element_len);
-
-/* *judgement becomes 0, a yes, if the hash of the element of entry index is right
- * or the element has none, and else CERBERUS_WRONG_HASH, a no.
- * Refuses: as cerberus_table_entry. */
-uint8_t cerberus_element_verdict(const uint8_t *manifest, size_t manifest_len, size_t index, uint8_t *judgement);
-
-/* *judgement becomes 0, a yes, if every element gets a yes, and else
- * CERBERUS_WRONG_HASH, a no. Refuses: as cerberus_table_check. */
-uint8_t cerberus_manifest_verdict(const uint8_t *manifest, size_t manifest_len, uint8_t *judgement);
-
-/* Writes the table of a manifest, which stands in it from
- * CERBERUS_MANIFEST_HEADER_LEN on: head, entries, hashes, and the hash over these,
- * which it works out. entries are the bytes of an array of cerberus_entry, hashes
- * one behind the other; signature_start is where the manifest's signature will
- * begin. Refuses: 12 hash_type above 2, entries or hashes that are no whole number
- * of these or more than 255, signature_start above 65,534, or the table wouldn't
- * fit before the signature or an entry breaks a rule of cerberus_table_check; 3
- * table has not exactly CERBERUS_TABLE_HEAD_LEN + entries_len + hashes_len bytes
- * and the 32, 48 or 64 of one hash more. */
-uint8_t cerberus_table_write(uint8_t hash_type, const uint8_t *entries, size_t entries_len,
-                             const uint8_t *hashes, size_t hashes_len, size_t signature_start,
-                             uint8_t *table, size_t table_len);
 
 /* ---- manifest elements: readers refuse 12 alone, writers 12 and then 3 for
  * a buffer that hasn't exactly the element's length */

@@ -1,8 +1,7 @@
 /* The controller calls from C: a measurement log with three events, whose buffer another hand writes to
  * and a replay repairs, and which is compared with another card's; a manifest that comes in by Cerberus
- * messages and is then asked for its version id; a manifest whose table of contents is written, walked
- * and judged; a firmware image that is checked by a hash of each type that manifests have; and a card that
- * is bound to its chassis.
+ * messages and is then asked for its version id; a firmware image that is checked by a hash of each type
+ * that manifests have; and a card that is bound to its chassis.
  * The status is 1 if a call answers something that it shouldn't. */
 #include "cerberus.h"
 #include "same_bytes.h"
@@ -11,22 +10,15 @@
 #include <stdlib.h>
 #include <string.h>
 
-static void print_number(FILE *to, uint8_t number) {
+static void print_answer(FILE *to, uint8_t answer) {
     uint8_t text[80];
     size_t text_len = 0;
-    if (cerberus_meaning(number, text, sizeof text, &text_len) == CERBERUS_ACCEPTED)
-        fprintf(to, "%u (%.*s)", number, (int)text_len, (const char *)text);
-    else
-        fprintf(to, "%u, which is no refusal number", number);
-}
-
-static void print_answer(FILE *to, uint8_t answer) {
-    if (answer == CERBERUS_ACCEPTED) {
+    if (answer == CERBERUS_ACCEPTED)
         fprintf(to, "accepted");
-        return;
-    }
-    fprintf(to, "refused ");
-    print_number(to, answer);
+    else if (cerberus_meaning(answer, text, sizeof text, &text_len) == CERBERUS_ACCEPTED)
+        fprintf(to, "refused %u (%.*s)", answer, (int)text_len, (const char *)text);
+    else
+        fprintf(to, "%u, which is no refusal number", answer);
 }
 
 /* Stops unless a call answered what it should. */
@@ -216,126 +208,6 @@ static void transfer(void) {
            (unsigned long long)slot.active_id);
 }
 
-/* ---- a manifest's table of contents */
-
-enum { ELEMENTS = 3, HASH_LEN = 32, ENTRIES_START = CERBERUS_MANIFEST_HEADER_LEN + CERBERUS_TABLE_HEAD_LEN };
-enum { TABLE_LEN = CERBERUS_TABLE_HEAD_LEN + ELEMENTS * (sizeof(cerberus_entry) + HASH_LEN) + HASH_LEN };
-enum { TABLE_END = CERBERUS_MANIFEST_HEADER_LEN + TABLE_LEN, SIGNATURE_START = TABLE_END + 32 };
-enum { PFM_LEN = SIGNATURE_START + SIGNATURE_LEN };
-
-/* A Platform ID, a Firmware, and a Firmware Version that is the Firmware's, each with a hash of its own. (A card's PFM
- * has a Flash Device too.) */
-static const cerberus_entry entries[ELEMENTS] = {
-    {.type_id = 0x00, .parent = CERBERUS_NONE, .format = 1, .hash_id = 0, .offset = TABLE_END, .length = 12},
-    {.type_id = 0x11, .parent = CERBERUS_NONE, .format = 1, .hash_id = 1, .offset = TABLE_END + 12, .length = 8},
-    {.type_id = 0x12, .parent = 0x11, .format = 1, .hash_id = 2, .offset = TABLE_END + 20, .length = 12},
-};
-
-/* Header, table, elements, and a signature, which is filler. */
-static void make_pfm(uint8_t pfm[PFM_LEN]) {
-    static const uint8_t header[HEADER_LEN] = {PFM_LEN, 0, 0x6d, 0x70, 1, 0, 0, 0, SIGNATURE_LEN, 0, 0, 0};
-    static const uint8_t elements[SIGNATURE_START - TABLE_END] = {
-        6, 0, 0, 0, 'c', 'a', 'r', 'd', '-', '7', 0, 0, /* the id and its length */
-        1, 4, 0, 0, 'm', 'a', 'i', 'n',                 /* one version; the firmware's name and its length */
-        0, 0, 3, 0, 0, 0x10, 0, 0, '1', '.', '0', 0,    /* no images, no regions; the version, its length and address */
-    };
-    uint8_t hashes[ELEMENTS * HASH_LEN];
-    memset(pfm, 0x5a, PFM_LEN);
-    memcpy(pfm, header, sizeof header);
-    memcpy(pfm + TABLE_END, elements, sizeof elements);
-    for (size_t k = 0; k < ELEMENTS; k++) {
-        uint8_t answer = cerberus_hash(CERBERUS_HASH_SHA256, pfm + entries[k].offset, entries[k].length,
-                                       hashes + HASH_LEN * k, HASH_LEN);
-        expect(answer, CERBERUS_ACCEPTED, "hash");
-    }
-    uint8_t answer = cerberus_table_write(CERBERUS_HASH_SHA256, (const uint8_t *)entries, sizeof entries, hashes,
-                                          sizeof hashes, SIGNATURE_START, pfm + CERBERUS_MANIFEST_HEADER_LEN, TABLE_LEN);
-    expect(answer, CERBERUS_ACCEPTED, "table write");
-    printf("  wrote a table of %d bytes for %d elements\n", TABLE_LEN, ELEMENTS);
-}
-
-static void check_table(const uint8_t pfm[PFM_LEN], uint8_t right) {
-    uint8_t answer = cerberus_table_check(pfm, PFM_LEN);
-    expect(answer, right, "table check");
-    printf("  table check: ");
-    print_answer(stdout, answer);
-    printf("\n");
-}
-
-/* One call checks the table. From then on the entries are read where they stand, and no call checks it again. */
-static void walk(const uint8_t pfm[PFM_LEN]) {
-    uint8_t entry_count, hash_count, hash_type;
-    uint8_t answer = cerberus_table_read(pfm, PFM_LEN, &entry_count, &hash_count, &hash_type);
-    expect(answer, CERBERUS_ACCEPTED, "table read");
-    printf("  %u entries, %u hashes of type %u\n", entry_count, hash_count, hash_type);
-    for (size_t k = 0; k < entry_count; k++) {
-        cerberus_entry entry;
-        memcpy(&entry, pfm + ENTRIES_START + sizeof entry * k, sizeof entry);
-        printf("  entry %zu: type 0x%02x, parent 0x%02x, format %u, hash %u, %u bytes from %u on\n", k, entry.type_id,
-               entry.parent, entry.format, entry.hash_id, entry.length, entry.offset);
-    }
-}
-
-/* A no isn't a refusal: the call was accepted. */
-static void print_judgement(uint8_t judgement, uint8_t right) {
-    expect(judgement, right, "verdict");
-    if (judgement == 0) {
-        printf("yes\n");
-        return;
-    }
-    printf("no, for ");
-    print_number(stdout, judgement);
-    printf("\n");
-}
-
-static void judge_element(const uint8_t pfm[PFM_LEN], size_t k, uint8_t right) {
-    size_t offset, len;
-    uint8_t judgement;
-    expect(cerberus_table_element(pfm, PFM_LEN, k, &offset, &len), CERBERUS_ACCEPTED, "table element");
-    expect(cerberus_element_verdict(pfm, PFM_LEN, k, &judgement), CERBERUS_ACCEPTED, "element verdict");
-    printf("  element %zu, %zu bytes from %zu on: ", k, len, offset);
-    print_judgement(judgement, right);
-}
-
-static void judge_manifest(const uint8_t pfm[PFM_LEN], uint8_t right) {
-    uint8_t judgement;
-    expect(cerberus_manifest_verdict(pfm, PFM_LEN, &judgement), CERBERUS_ACCEPTED, "manifest verdict");
-    printf("  the manifest: ");
-    print_judgement(judgement, right);
-}
-
-static void show_parent(const uint8_t pfm[PFM_LEN], size_t k, uint8_t right) {
-    uint8_t parent;
-    expect(cerberus_table_parent(pfm, PFM_LEN, k, &parent), CERBERUS_ACCEPTED, "table parent");
-    if (parent != right) {
-        fprintf(stderr, "the parent isn't right\n");
-        exit(1);
-    }
-    printf("  the parent of entry %zu is entry %u\n", k, parent);
-}
-
-/* Where an element was changed the answer is a no; where the table was, the calls refuse. */
-static void read_contents(void) {
-    uint8_t pfm[PFM_LEN];
-    printf("a manifest's table of contents\n");
-    make_pfm(pfm);
-    check_table(pfm, CERBERUS_ACCEPTED);
-    walk(pfm);
-    for (size_t k = 0; k < ELEMENTS; k++)
-        judge_element(pfm, k, 0);
-    judge_manifest(pfm, 0);
-    show_parent(pfm, 2, 1);
-    pfm[entries[1].offset + 4] ^= 1;
-    printf("  a byte of element 1 changes\n");
-    check_table(pfm, CERBERUS_ACCEPTED);
-    judge_element(pfm, 1, CERBERUS_WRONG_HASH);
-    judge_element(pfm, 2, 0);
-    judge_manifest(pfm, CERBERUS_WRONG_HASH);
-    pfm[ENTRIES_START + 2] ^= 1;
-    printf("  a byte of the table changes\n");
-    check_table(pfm, CERBERUS_WRONG_HASH);
-}
-
 /* ---- firmware hashes */
 
 /* Whether this is the image's hash. */
@@ -417,7 +289,6 @@ static void bind_to_chassis(void) {
 int main(void) {
     measure();
     transfer();
-    read_contents();
     check_firmware();
     bind_to_chassis();
     return 0;

@@ -8,10 +8,9 @@ use crate::marshal::Handed;
 use crate::marshal::Passed;
 use crate::model::log::{Book, Record, State};
 use crate::model::slot::{Numbers, Role, Slot};
-use crate::model::table::{Entry, NONE, Verdict};
 use crate::model::{
     Answer, Refusal, certificate_slots, comparison, element, hash, hmac, log, meaning, message, pairing, sha256,
-    sha512, slot, table,
+    sha512, slot,
 };
 
 /// What follows from a call's entry.
@@ -64,10 +63,6 @@ enum Group {
     LogText,
     LogPair,
     Slot,
-    /// They read a manifest's table, or one thing of it by a number.
-    Manifest,
-    ManifestIndex,
-    TableWriter,
     Element,
 }
 
@@ -255,50 +250,6 @@ calls! {
             message::command(slot, is_yes(signature_good), message, pending, active, response)?;
         (*slot, *written) = (next.numbers(), len as usize);
     }
-    TableCheck = cerberus_table_check(manifest: &[u8]) -> [0, 8, 12, 13] in Manifest {
-        table::read(manifest)?;
-    }
-    TableRead = cerberus_table_read(
-        manifest: &[u8], entry_count: &mut u8, hash_count: &mut u8, hash_type: &mut u8
-    ) -> [0, 8, 12, 13] in Manifest {
-        let table = table::read(manifest)?;
-        (*entry_count, *hash_count) = (table.entries.len() as u8, table.hashes.len() as u8);
-        *hash_type = table.hash_type;
-    }
-    TableEntry = cerberus_table_entry(
-        manifest: &[u8], index: usize, entry: &mut Entry
-    ) -> [0, 5, 8, 12, 13] in ManifestIndex {
-        *entry = table::entry(manifest, index as u64)?;
-    }
-    TableParent = cerberus_table_parent(
-        manifest: &[u8], index: usize, parent: &mut u8
-    ) -> [0, 5, 8, 12, 13] in ManifestIndex {
-        *parent = table::parent(manifest, index as u64)?.map_or(NONE, |parent| parent as u8);
-    }
-    TableHash = cerberus_table_hash(
-        manifest: &[u8], index: usize, offset: &mut usize, hash_len: &mut usize
-    ) -> [0, 5, 8, 12, 13] in ManifestIndex {
-        (*offset, *hash_len) = table::hash(manifest, index as u64)?;
-    }
-    TableElement = cerberus_table_element(
-        manifest: &[u8], index: usize, offset: &mut usize, element_len: &mut usize
-    ) -> [0, 5, 8, 12, 13] in ManifestIndex {
-        let span = table::entry(manifest, index as u64)?.span();
-        (*offset, *element_len) = (span.start, span.len());
-    }
-    ElementVerdict = cerberus_element_verdict(
-        manifest: &[u8], index: usize, judgement: &mut u8
-    ) -> [0, 5, 8, 12, 13] in ManifestIndex {
-        *judgement = judgement_of(table::element_verdict(manifest, index as u64)?);
-    }
-    ManifestVerdict = cerberus_manifest_verdict(manifest: &[u8], judgement: &mut u8) -> [0, 8, 12, 13] in Manifest {
-        *judgement = judgement_of(table::manifest_verdict(manifest)?);
-    }
-    TableWrite = cerberus_table_write(
-        hash_type: u8, entries: &[u8], hashes: &[u8], signature_start: usize, table: &mut [u8]
-    ) -> [0, 3, 12] in TableWriter {
-        table::write(hash_type, entries, hashes, signature_start as u64, table)?;
-    }
     RegionRead = cerberus_region_read(element: &[u8], start: &mut u32, end: &mut u32) -> [0, 12] in Element {
         let region = element::read_region(element)?;
         (*start, *end) = (region.start, region.end);
@@ -361,11 +312,6 @@ fn role_of(number: u8) -> Answer<Role> {
         1 => Ok(Role::Pending),
         _ => Err(Refusal::OutOfRange),
     }
-}
-
-/// By the header, 0 is yes and the number of a wrong hash no.
-fn judgement_of(verdict: Verdict) -> u8 {
-    verdict.map_or_else(|number| number as u8, |()| 0)
 }
 
 impl Call {
@@ -438,9 +384,6 @@ lists! {
     OVER_LOG = LogReset | LogByState | LogJudging | LogText;
     FROM_LOGS = LogByState | LogJudging | LogText | LogPair;
     OVER_SLOT = Slot;
-    OVER_MANIFEST = Manifest | ManifestIndex;
-    BY_INDEX = ManifestIndex;
-    OVER_TABLE = Manifest | ManifestIndex | TableWriter;
     OVER_ELEMENT = Element;
 }
 

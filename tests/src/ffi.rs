@@ -4,7 +4,6 @@ use crate::model::comparison::PmrComparison;
 use crate::model::little_endian;
 use crate::model::log::{PMRS, Pmr, State};
 use crate::model::slot::Numbers;
-use crate::model::table::{ENTRY_LEN, Entry};
 
 /// What lent memory serves as.
 #[derive(Clone, Copy, PartialEq, Eq)]
@@ -78,7 +77,7 @@ pub struct Layout {
 }
 
 /// All of them, for the compiler to compare with the header's.
-pub const LAYOUTS: [Layout; 5] = [
+pub const LAYOUTS: [Layout; 4] = [
     Layout {
         name: Numbers::NAME,
         fields: &[
@@ -97,11 +96,6 @@ pub const LAYOUTS: [Layout; 5] = [
         name: Compared::NAME,
         fields: &[("left_records", 0), ("right_records", 1), ("same_register", 2), ("agree", 3), ("differ_at", 4)],
         len: COMPARED_LEN,
-    },
-    Layout {
-        name: Entry::NAME,
-        fields: &[("type_id", 0), ("parent", 1), ("format", 2), ("hash_id", 3), ("offset", 4), ("length", 6)],
-        len: ENTRY_LEN,
     },
 ];
 
@@ -199,19 +193,4 @@ pub fn compared(comparison: &[PmrComparison; PMRS]) -> Compared {
         let (same_register, agree) = (u8::from(pmr.same_register), u8::from(pmr.differ_at.is_none()));
         [pmr.left_records, pmr.right_records, same_register, agree, pmr.differ_at.unwrap_or(0)]
     })
-}
-
-impl InC for Entry {
-    const NAME: &'static str = "cerberus_entry";
-}
-
-/// It is read and written as bytes, as it stands in the table, at any address.
-impl Pointee for Entry {
-    const KIND: Kind = Kind::Bytes;
-    fn load(memory: &[u8]) -> Entry {
-        Entry::of(memory)
-    }
-    fn store(&self, memory: &mut [u8]) {
-        memory.copy_from_slice(&self.bytes());
-    }
 }

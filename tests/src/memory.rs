@@ -16,8 +16,7 @@ const PROT_READ_WRITE: i32 = 3;
 const MAP_PRIVATE_ANONYMOUS: i32 = 0x22;
 
 const PAGE: usize = 4096;
-/// Above 65,536 bytes, which no longer are a manifest.
-const SIZE: usize = 18 * PAGE;
+const SIZE: usize = 16 * PAGE;
 const GUARD: u8 = 0xa5;
 /// So many bytes on either side are looked at after each call; all of them from time to time.
 const NEAR: usize = 128;

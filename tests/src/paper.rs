@@ -1,8 +1,6 @@
-//! Document 01's examples at the edges, published vectors, and what document 02 says of a table of contents (Item 1),
-//! of a log's state (Item 2), of its legacy form (Item 4), of hash types (Item 8) and of slots and pairing (Item 14),
-//! with the papers' own bytes: neither the library nor the model decides here what is right.
-
-mod table;
+//! Document 01's examples at the edges, published vectors, and what document 02 says of a log's state (Item 2), of its
+//! legacy form (Item 4), of hash types (Item 8) and of slots and pairing (Item 14), with the papers' own bytes: neither
+//! the library nor the model decides here what is right.
 
 use crate::calls::{Call, OF_ONE_HASH, call_model};
 use crate::case::{Case, Outcome};
@@ -112,7 +110,6 @@ pub fn run(harness: &mut Harness) {
     legacy_buffer(harness);
     limits(harness);
     version_id(harness);
-    table::run(harness);
 }
 
 fn bytes(hex: &str) -> Vec<u8> {

@@ -2,8 +2,7 @@
 //! whichever thread runs it.
 
 use crate::calls::{
-    BY_INDEX, BY_STATE, CALLS, Call, JUDGING, OF_ONE_HASH, OVER_ELEMENT, OVER_LOG, OVER_MANIFEST, OVER_SLOT,
-    OVER_STATE, OVER_TABLE, OVER_TEXT,
+    BY_STATE, CALLS, Call, JUDGING, OF_ONE_HASH, OVER_ELEMENT, OVER_LOG, OVER_SLOT, OVER_STATE, OVER_TEXT,
 };
 use crate::generate::Generator;
 use crate::generate::log::Pool;
@@ -83,7 +82,6 @@ fn systematic_jobs(plan: &mut Plan) {
     plan.add("element-indices", OVER_ELEMENT, systematic::element::indices);
     plan.add("element-absurd-lengths", OVER_ELEMENT, systematic::element::absurd_lengths);
     plan.add("meanings", &[Call::Meaning], systematic::meanings);
-    table_jobs(plan);
     hash_jobs(plan);
     binding_jobs(plan);
 }
@@ -115,57 +113,6 @@ fn log_jobs(plan: &mut Plan) {
     plan.add("log-state-number-bits", OVER_STATE, systematic::log_state::number_bits);
     plan.add("log-state-pairs", OVER_STATE, systematic::log_state::pairs);
     plan.add("log-state-without-entries", OVER_STATE, systematic::log_state::without_entries);
-}
-
-fn table_jobs(plan: &mut Plan) {
-    type OfType = fn(&mut Harness, u8, &mut Rng);
-    let of_types: [(&str, OfType); 7] = [
-        ("refusals-at-once", systematic::table::refusals_at_once),
-        ("bytes", systematic::table::bytes),
-        ("front-values", systematic::table::front_values),
-        ("lengths", systematic::table::lengths),
-        ("signature-starts", systematic::table::signature_starts),
-        ("counts", systematic::table::counts),
-        ("long", systematic::table::long),
-    ];
-    for ((name, work), hash_type) in of_types.into_iter().flat_map(|job| [(job, 0), (job, 1), (job, 2)]) {
-        let name = format!("table-{name}/{hash_type}");
-        plan.add(&name, OVER_MANIFEST, move |harness, rng| work(harness, hash_type, rng));
-    }
-    plan.add("table-past-65535", OVER_MANIFEST, systematic::table::past_65_535);
-    plan.add("table-absurd-lengths", OVER_MANIFEST, systematic::table::absurd_lengths);
-    plan.add("table-every-count", OVER_MANIFEST, systematic::table::every_count);
-    plan.add("table-indices", BY_INDEX, systematic::table::indices);
-    entry_jobs(plan);
-    table_write_jobs(plan);
-}
-
-/// Each of the entries' rules is tried on the check, on the writer and on the call that it is most about.
-fn entry_jobs(plan: &mut Plan) {
-    use systematic::table_entries::*;
-    let judging = |call: Call| [Call::TableCheck, Call::TableWrite, call];
-    plan.add("table-two-elements", &judging(Call::TableElement), two_elements);
-    plan.add("table-every-pair", &judging(Call::TableEntry), every_pair);
-    plan.add("table-hash-ids", &judging(Call::ElementVerdict), hash_ids);
-    plan.add("table-parents", &[&judging(Call::TableParent)[..], &[Call::TableEntry]].concat(), parents);
-    plan.add("table-far-parents", &judging(Call::TableParent), far_parents);
-    let verdict_calls = [Call::ElementVerdict, Call::ManifestVerdict];
-    plan.add("table-verdicts", &verdict_calls, verdicts);
-    plan.add("table-element-lengths", &verdict_calls, element_lengths);
-    plan.add("table-element-bits", &verdict_calls, element_bits);
-}
-
-fn table_write_jobs(plan: &mut Plan) {
-    use systematic::table_write::*;
-    let writer = &[Call::TableWrite];
-    plan.add("table-write-refusals-at-once", writer, refusals_at_once);
-    plan.add("table-write-buffer-lengths", writer, buffer_lengths);
-    plan.add("table-write-parts-lengths", writer, parts_lengths);
-    plan.add("table-write-hash-types", writer, hash_types);
-    plan.add("table-write-signature-starts", writer, signature_starts);
-    plan.add("table-write-entry-bytes", writer, entry_bytes);
-    plan.add("table-write-absurd-lengths", writer, absurd_lengths);
-    plan.add("table-write-round-trip", OVER_TABLE, round_trip);
 }
 
 fn hash_jobs(plan: &mut Plan) {

@@ -35,7 +35,7 @@ unfolding verdict_of
 others n e =
     let none : 0 + n ≡ n = omega arith in
     ⊎_elim
-    (λ (l : n < length verdicts). in_order 0 verdicts n (refl, (refl, (refl, (refl, (refl, (refl, (refl, (refl, (refl, (refl, (refl, (refl, (refl, (refl, tt)))))))))))))) l ∙ none)
+    (λ (l : n < length verdicts). in_order 0 verdicts n (refl, (refl, (refl, (refl, (refl, (refl, (refl, (refl, (refl, (refl, (refl, (refl, (refl, tt))))))))))))) l ∙ none)
     (λ (g : length verdicts ≤ n). absurd (true≢false (sym (ap (λ (v : Verdict). eqb (number_of v) 0) (get_or-eq_default verdicts Accepted g)) ∙ e)))
     (before_or_not n (length verdicts))
 

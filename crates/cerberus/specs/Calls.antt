@@ -17,12 +17,9 @@ use Rattle.regions.specs.RwRegion.{RwFields}
 use Rattle.signed_image.specs.declared.SignedImage.{SignedImage}
 use Rattle.root_cas.specs.declared.RootCas.{RootCas}
 use Rattle.root_cas.specs.RootCas.{roots_head_length}
-use Rattle.table_entries.specs.declared.entry.Entry.{Entry}
-use Rattle.table_layout.specs.Layout.{hash_start, hash_width}
-use Rattle.manifest_table.specs.declared.read.Table.{Table}
 use Rattle.c_encoding.specs.Roles.{role_of}
 
--- ---- the refusals' meaning: "3 text has under 80 bytes; 5 number is not 1 to 13"
+-- ---- the refusals' meaning: "3 text has under 80 bytes; 5 number is not 1 to 12"
 
 -- no refusal has this number
 abbrev pub no_refusal : ℕ → Bool
@@ -75,32 +72,12 @@ roots_values hash_type r = (r.count, hash_length hash_type)
 abbrev pub hash_place : ℕ → ℕ → ℕ × ℕ
 hash_place hash_type index = (roots_head_length + hash_length hash_type * index, hash_length hash_type)
 
--- ---- a number, "or CERBERUS_NO_CHAIN if none does", "CERBERUS_NONE if it names none": 255 for none
+-- ---- certificate slots: the lowest slot, "or CERBERUS_NO_CHAIN if none does"
 
-abbrev pub or_none : Option ℕ → ℕ
-or_none none = 255
-or_none (some k) = k
-
--- ---- certificate slots
+abbrev pub slotNumber : Option ℕ → ℕ
+slotNumber none = 255
+slotNumber (some k) = k
 
 -- how many slots hold a chain, and the lowest that does
 abbrev pub chains_told : ℕ → Outcome (ℕ × ℕ)
-chains_told mask = outcome 0 (chain_count mask, or_none (lowest_chain mask))
-
--- ---- a manifest's table of contents
-
--- how many entries and hashes, and the hashes' type
-abbrev pub table_values : Table → ℕ × ℕ × ℕ
-table_values t = (t.entry_count, t.hash_count, t.hash_type)
-
--- where hash k begins in the manifest m, and its length
-abbrev pub table_hash_place : List ℕ → ℕ → ℕ × ℕ
-table_hash_place m k = (hash_start m k, hash_width m)
-
--- where an entry's element begins, and its length
-abbrev pub element_place : Entry → ℕ × ℕ
-element_place e = (e.offset, e.length)
-
--- a judgement is told by its reason: "0, a yes", "CERBERUS_WRONG_HASH, a no"
-abbrev pub reason : ℕ → ℕ
-reason n = n
+chains_told mask = outcome 0 (chain_count mask, slotNumber (lowest_chain mask))

@@ -11,4 +11,3 @@ pub mod messages;
 pub mod refusals;
 pub mod roots;
 pub mod slots;
-pub mod tables;

@@ -1,19 +1,19 @@
 -- Runs of items, over the item's width: of regions, and of hashes of each type.
 use Prim.Native.Nat.{ℕ, zero, suc, ◌≤◌, ◌<◌, ◌+◌, ◌-◌, ◌*◌, ◌/◌, ◌%◌}
 use mathlib.Core.Path.{◌≡◌, refl, sym, ap, subst, ◌∙◌}
-use mathlib.Core.Bool.{Bool, true, false, not, ◌||◌, or-false}
+use mathlib.Core.Bool.{Bool, true, false, ◌||◌, or-true}
 use mathlib.Core.List.{List, []}
 use mathlib.Core.Logic.{◌⊎◌, inl, inr}
 use native.Mathlib.Omega.{arith}
-use native.Mathlib.Nat.{mul-le-mul_left, mul-suc, mul-div-le, mul-div_right, mul-mod_right, lt-mul-div-succ, div-add-mod, div-zero, mod-zero, add-zero, le_trans, zero-lt-suc}
+use native.Mathlib.Nat.{mul-le-mul_left, mul-suc, mul-div-le, mul-div_right, mul-mod_right, lt-mul-div-succ, div-add-mod, div-zero, add-zero, le_trans, zero-lt-suc}
 use borrow.Author.Tests.{eq-eqb, ne_eqb, eqb-false, le-ltb, ltb-false, lt-leb, leb-true, leb-false}
-use lib.Dec.{leb, ltb, eqb, lit<}
+use lib.Dec.{leb, lit<}
 use lib.ListN.{length, take, drop, length-drop, drop_of_length-le}
 use lib.Seq.{length-take-le, take-nil, drop-nil}
 use Rattle.laws.proofs.Tests.{any_no, no_any, equal_no, no_equal}
 use Rattle.refusal.specs.Rules.{◌when◌else◌, first◌then◌}
 use Rattle.refusal.proofs.Laws.{first_yes, when_no, first_accepted, when_accepted}
-use Rattle.element_parts.specs.Parts.{read_number, shown_part, item, item_number, item_count, run_faults, bad_run, item_faults, bad_items}
+use Rattle.element_parts.specs.Parts.{read_number, shown_part, item, item_number, item_count, item_faults, bad_items}
 
 -- an index that is at most the number of items is at most the length
 pub item_starts : (w : ℕ) (l : List ℕ) (i : ℕ) → i ≤ item_count w l → w * i ≤ length l
@@ -80,37 +80,16 @@ item_shown w n part i zero e = tested (leb n i) refl
 pub none_of_width : (w : ℕ) (l : List ℕ) → w ≡ 0 → item_count w l ≡ 0
 none_of_width w l e = ap (λ (k : ℕ). length l / k) e ∙ div-zero (length l)
 
+pub bad-width : (w : ℕ) (l : List ℕ) → w ≡ 0 → bad_items w l ≡ true
+bad-width w l e = rw (eq-eqb (item_count w l) 0 (none_of_width w l e), or-true)
+
 -- n items of w bytes
 pub counted : (w n : ℕ) (l : List ℕ) → 0 < w → length l ≡ w * n → item_count w l ≡ n
 counted w n l p e = ap (λ (k : ℕ). k / w) e ∙ mul-div_right n p
 
 -- ---- a run that a writer takes
 
--- a whole number of items, which a byte can say
-pub record GoodRun (w : ℕ) (l : List ℕ) : Type 0 where
-  pub whole : length l ≡ w * item_count w l
-  pub few : item_count w l ≤ 255
-
-pub good_run : (w : ℕ) (l : List ℕ) → bad_run w l ≡ false → GoodRun w l
-good_run w l e =
-    let p = any_no (run_faults w l) e in
-    let whole : w * (length l / w) + 0 ≡ length l = ap (λ (k : ℕ). w * (length l / w) + k) (sym (no_equal (length l % w) 0 p.0)) ∙ div-add-mod (length l) w in
-    record { whole = sym (sym (add-zero (w * (length l / w))) ∙ whole); few = ltb-false 255 (item_count w l) p.1.0 }
-
-pub run_good : (w : ℕ) (l : List ℕ) → GoodRun w l → bad_run w l ≡ false
-run_good w l g = no_any (run_faults w l) (equal_no (ap (λ (k : ℕ). k % w) g.whole ∙ mul-mod_right w (item_count w l)), (le-ltb 255 (item_count w l) g.few, tt))
-
--- n items of w bytes, where n is a byte
-pub run_of : (w n : ℕ) (l : List ℕ) → 0 < w → length l ≡ w * n → n < 256 → GoodRun w l
-run_of w n l p e few =
-    let c : item_count w l ≡ n = counted w n l p e in
-    record { whole = e ∙ ap (λ (k : ℕ). w * k) (sym c); few = omega (arith, c) }
-
--- where items have no bytes, only the empty run is good
-pub run_of_none : (w : ℕ) (l : List ℕ) → w ≡ 0 → not (eqb (length l) 0) ≡ bad_run w l
-run_of_none w l e = sym ((λ i. not (eqb (length l % e i) 0) || ltb 255 (none_of_width w l e i)) ∙ rw (mod-zero, or-false))
-
--- the same, and not 0 items
+-- a whole number of items, which is not 0 and which a byte can say
 pub record GoodItems (w : ℕ) (l : List ℕ) : Type 0 where
   pub whole : length l ≡ w * item_count w l
   pub some : item_count w l ≡ 0 → ⊥
@@ -119,14 +98,16 @@ pub record GoodItems (w : ℕ) (l : List ℕ) : Type 0 where
 pub good_items : (w : ℕ) (l : List ℕ) → bad_items w l ≡ false → GoodItems w l
 good_items w l e =
     let p = any_no (item_faults w l) e in
-    let g = good_run w l p.1.0 in
-    record { whole = g.whole; some = eqb-false (item_count w l) 0 p.0; few = g.few }
+    let whole : w * (length l / w) + 0 ≡ length l = ap (λ (k : ℕ). w * (length l / w) + k) (sym (no_equal (length l % w) 0 p.0)) ∙ div-add-mod (length l) w in
+    record { whole = sym (sym (add-zero (w * (length l / w))) ∙ whole); some = eqb-false (item_count w l) 0 p.1.0; few = ltb-false 255 (item_count w l) p.1.1.0 }
 
 pub items_good : (w : ℕ) (l : List ℕ) → GoodItems w l → bad_items w l ≡ false
-items_good w l g = no_any (item_faults w l) (ne_eqb (item_count w l) 0 g.some, (run_good w l (record { whole = g.whole; few = g.few }), tt))
+items_good w l g =
+    no_any (item_faults w l)
+    (equal_no (ap (λ (k : ℕ). k % w) g.whole ∙ mul-mod_right w (item_count w l)), (ne_eqb (item_count w l) 0 g.some, (le-ltb 255 (item_count w l) g.few, tt)))
 
 -- n items of w bytes, where n is a byte that is not 0
 pub items_of : (w n : ℕ) (l : List ℕ) → 0 < w → length l ≡ w * n → (n ≡ 0 → ⊥) → n < 256 → GoodItems w l
 items_of w n l p e some few =
-    let g = run_of w n l p e few in
-    record { whole = g.whole; some = λ z. some (sym (counted w n l p e) ∙ z); few = g.few }
+    let c : item_count w l ≡ n = counted w n l p e in
+    record { whole = e ∙ ap (λ (k : ℕ). w * k) (sym c); some = λ z. some (sym c ∙ z); few = omega (arith, c) }

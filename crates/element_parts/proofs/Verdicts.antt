@@ -8,12 +8,8 @@ use borrow.Author.Tests.{ne_eqb}
 use lib.Dec.{eqb, lit<}
 use lib.ListN.{length}
 use Rattle.laws.proofs.Tests.{equal_no, no_equal}
-use Rattle.refusal.specs.declared.Refusal.{Refusal}
-use Rattle.refusal.specs.declared.Verdict.{Verdict}
-use Rattle.refusal.specs.declared.Verdict.TheVariants.{Accepted, Refused}
-use Rattle.refusal.specs.Refusals.{number_of}
 use Rattle.refusal.specs.Steps.{outcome, Reply, reply}
-use Rattle.refusal.proofs.Laws.{when_accepted, accepted_yes, accepted_no, says_yes, says_no}
+use Rattle.refusal.proofs.Laws.{when_accepted, accepted_yes}
 use Rattle.refusal.proofs.Steps.{decided_yes}
 use Rattle.element_parts.specs.Parts.{read_number, write_number, write_step, shown_part}
 
@@ -30,13 +26,6 @@ malformed_part p e t = rw (sym e ∙ ap read_number t)
 
 pub sound_part : {m : Bool} {n : ℕ} {p q : List ℕ} → read_number m ≡ n → m ≡ false → q ≡ p → q ≡ shown_part n p
 sound_part e t f = rw (sym e ∙ ap read_number t) f
-
--- the same by a reader's verdict
-pub part_refused : {v : Verdict} {n : ℕ} {why : Refusal} (p : List ℕ) → number_of v ≡ n → v ≡ Refused why → [] ≡ shown_part n p
-part_refused p e f = sym (accepted_no p [] (says_no e f))
-
-pub part_accepted : {v : Verdict} {n : ℕ} {p q : List ℕ} → number_of v ≡ n → v ≡ Accepted → q ≡ p → q ≡ shown_part n p
-part_accepted {p = p} e f is = is ∙ sym (accepted_yes p [] (says_yes e f))
 
 pub read_yes : {m : Bool} → m ≡ false → read_number m ≡ 0
 read_yes e = ap read_number e

@@ -41,21 +41,12 @@ item_number number count i =
 abbrev pub item_count : ℕ → List ℕ → ℕ
 item_count w l = length l / w
 
--- "region bytes that aren't a multiple of 8, hashes that don't fill a whole number, and a count above 255"
-abbrev pub run_faults : ℕ → List ℕ → List Bool
-run_faults w l =
-    not (eqb (length l % w) 0)
-    ∷ ltb 255 (item_count w l)
-    ∷ []
-
-abbrev pub bad_run : ℕ → List ℕ → Bool
-bad_run w l = any (run_faults w l)
-
--- the same, and "a count of 0"
+-- "region bytes that aren't a multiple of 8, hashes that don't fill a whole number, and a count above 255", and "a count of 0"
 abbrev pub item_faults : ℕ → List ℕ → List Bool
 item_faults w l =
-    eqb (item_count w l) 0
-    ∷ bad_run w l
+    not (eqb (length l % w) 0)
+    ∷ eqb (item_count w l) 0
+    ∷ ltb 255 (item_count w l)
     ∷ []
 
 abbrev pub bad_items : ℕ → List ℕ → Bool

@@ -2,7 +2,7 @@
 // element needs another to hold first.
 ghost use Rattle.std.specs.Prelude.{◌≡◌};
 ghost use Rattle.refusal.specs.Refusals.{number_of};
-ghost use Rattle.element_parts.specs.Parts.{write_number, item, item_count, bad_run, bad_items};
+ghost use Rattle.element_parts.specs.Parts.{write_number, item, item_count, bad_items};
 
 use refusal::{Refusal, Verdict};
 
@@ -27,21 +27,15 @@ pub fn item_count(run: &[u8], width: usize) -> usize
     run.len() / width
 }
 
-// A run that is no whole number of items of width bytes, or has more than a count of one byte can say. Only an empty run has items of no bytes.
-pub fn bad_run(run: &[u8], width: usize) -> bool
-    ensures { result ≡ bad_run width run.now }
-{
-    if width == 0 {
-        return run.len() != 0;
-    }
-    (run.len() % width != 0) | (255 < item_count(run, width))
-}
-
-// Such a run, or one without items.
+// A run that is no whole number of items of width bytes, or has none, or more than a count of one byte can say.
 pub fn bad_items(run: &[u8], width: usize) -> bool
     ensures { result ≡ bad_items width run.now }
 {
-    (item_count(run, width) == 0) | bad_run(run, width)
+    if width == 0 {
+        return true;
+    }
+    let count = item_count(run, width);
+    (run.len() % width != 0) | (count == 0) | (255 < count)
 }
 
 // A writer's verdict on its fields, and then on the length of its buffer, which only sound fields have.

@@ -1,5 +1,5 @@
 -- 002, "Manifest Header": length (2), magic (2), id (4), signature length (2), signature type (1), reserved (1). Document 01 judges neither of the last two.
-use Rattle.std.specs.Prelude.{ℕ, ◌-◌, Bool, not, List, [], ◌∷◌, get_or, ltb, eqb}
+use Rattle.std.specs.Prelude.{ℕ, ◌-◌, Bool, not, List, [], ◌∷◌, ltb, eqb}
 use Rattle.octets.specs.Octets.{number_at}
 use Rattle.laws.specs.Tests.{any}
 
@@ -19,17 +19,6 @@ version_id m = number_at 4 m 4
 
 abbrev pub signature_length : List ℕ → ℕ
 signature_length m = number_at 2 m 8
-
--- 002's public_key_type, key_strength and hash_type, in one byte
-abbrev pub signature_type : List ℕ → ℕ
-signature_type m = get_or m 10 0
-
-abbrev pub header_reserved : List ℕ → ℕ
-header_reserved m = get_or m 11 0
-
--- where the signature starts in a manifest of so many bytes in total: "Every manifest .. ends with a signature, whose length is specified in the header"
-abbrev pub signature_start : ℕ → List ℕ → ℕ
-signature_start total m = total - signature_length m
 
 -- ---- document 01, activate's rules but the magic, which the slot and the table of contents (document 02, Item 1) share: "Length unlike the total, ..
 -- or signature length 0 or above total less 12, is 8", of a manifest m of so many bytes in total

@@ -1,7 +1,7 @@
 // Bytes in lent slices. Each function is total: a byte past the end reads as 0, and a run of bytes that does not fit is not
 // put. Numbers of several bytes are little-endian.
 ghost use Rattle.std.specs.Prelude.{◌≡◌, get_or, take, drop};
-ghost use Rattle.octets.specs.Octets.{part, number_at, bytes_of, bytes_at, pasted, zeroed_from, same_bytes, all_zero, replaced_by};
+ghost use Rattle.octets.specs.Octets.{number_at, bytes_of, bytes_at, pasted, zeroed_from, same_bytes, all_zero, replaced_by};
 
 pub fn byte_at(b: &[u8], at: usize) -> u8
     ensures { result ≡ get_or b.now at 0 }
@@ -27,13 +27,6 @@ pub fn behind(b: &[u8], at: usize) -> &[u8]
         return &b[at..];
     }
     &b[..0]
-}
-
-// n bytes from index at on: fewer where the slice ends before.
-pub fn part(b: &[u8], at: usize, n: usize) -> &[u8]
-    ensures { result.now ≡ part b.now at n }
-{
-    front(behind(b, at), n)
 }
 
 pub fn u16_at(b: &[u8], at: usize) -> u16

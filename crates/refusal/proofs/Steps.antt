@@ -78,13 +78,6 @@ module _ {A : Type 0} where
   pub reply_no : {n : ℕ} (x : A) → 0 < n → refused_by n ≡ reply n x
   reply_no {n = n} x h = λ i. record { number = n; values = sym (accepted_no {n = n} (x ∷ []) [] h) i }
 
-  -- by the verdict of a function, which has the reply's number
-  pub reply_refused : {v : Verdict} {n : ℕ} {why : Refusal} (x : A) → number_of v ≡ n → v ≡ Refused why → refused_by (refusal_number why) ≡ reply n x
-  reply_refused x e f = (λ i. refused_by ((ap number_of (sym f) ∙ e) i)) ∙ reply_no x (says_no e f)
-
-  pub reply_accepted : {v : Verdict} {n : ℕ} {x y : A} → number_of v ≡ n → v ≡ Accepted → y ≡ x → ◌≡◌ {A = Reply A} (record { number = 0; values = y ∷ [] }) (reply n x)
-  reply_accepted {x = x} e f is = (λ i. record { number = 0; values = is i ∷ [] }) ∙ reply_yes x (says_yes e f)
-
   -- what goes on from a reply
   pub given_yes : {B : Type 0} {n : ℕ} (x : B) (before : A) (next : B → Outcome A) → n ≡ 0 → given (reply n x) before next ≡ next x
   given_yes x before next e = rw e

@@ -1,10 +1,9 @@
--- Document 01, "Numbers that say no": each refusal with its number and its meaning, and the number of a verdict. Document 02, Item 1: "A wrong table hash is a
--- new number 13".
+-- Document 01, "Numbers that say no": each refusal with its number and its meaning, and the number of a verdict.
 use Rattle.std.specs.Prelude.{ℕ, List, [], ◌∷◌, get_or}
 use Prim.Native.Char.{code}
 use Prim.Native.String.{String}
 use Rattle.refusal.specs.declared.Refusal.{Refusal}
-use Rattle.refusal.specs.declared.Refusal.TheVariants.{ForeignHeader, BadLength, WrongBuffer, UnsoundState, OutOfRange, OutOfStep, LogFull, BadManifestHeader, StaleVersion, BadSignature, NotOffered, MalformedElement, WrongHash}
+use Rattle.refusal.specs.declared.Refusal.TheVariants.{ForeignHeader, BadLength, WrongBuffer, UnsoundState, OutOfRange, OutOfStep, LogFull, BadManifestHeader, StaleVersion, BadSignature, NotOffered, MalformedElement}
 use Rattle.refusal.specs.declared.Verdict.{Verdict}
 use Rattle.refusal.specs.declared.Verdict.TheVariants.{Accepted, Refused}
 
@@ -23,7 +22,6 @@ refusal_number StaleVersion = 9
 refusal_number BadSignature = 10
 refusal_number NotOffered = 11
 refusal_number MalformedElement = 12
-refusal_number WrongHash = 13
 
 abbrev pub words : Refusal → String
 words ForeignHeader = "the header is short or isn't ours"
@@ -38,7 +36,6 @@ words StaleVersion = "version id doesn't go forward"
 words BadSignature = "the signature was judged bad"
 words NotOffered = "known, but not offered"
 words MalformedElement = "malformed element"
-words WrongHash = "wrong hash"
 
 -- ---- numbers
 
@@ -63,7 +60,6 @@ verdicts =
     ∷ Refused BadSignature
     ∷ Refused NotOffered
     ∷ Refused MalformedElement
-    ∷ Refused WrongHash
     ∷ []
 
 -- the verdict with this number; no refusal has a number that isn't in the table

@@ -98,7 +98,7 @@ impl Report {
     }
 
     // The first n bytes of a text, as they are; none where it has fewer.
-    pub fn front(self, text: &[u8], n: usize) -> Self
+    fn front(self, text: &[u8], n: usize) -> Self
         ensures { StaysFailed self.ok result.ok }
     {
         if n <= text.len() {

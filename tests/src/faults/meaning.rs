@@ -13,7 +13,7 @@ pub const FAULTS: &[Fault] = &[
             found.bytes("text").truncate(ROOM - 1);
         }
     }),
-    fault("OTHER_MEANING", "a number above 13 has a meaning", &[Meaning], |found| {
+    fault("OTHER_MEANING", "a number above 12 has a meaning", &[Meaning], |found| {
         if found.case.number("number") == ANSWERS as u64 {
             found.redo(|case| case.set_number("number", ANSWERS as u64 - 1));
         }

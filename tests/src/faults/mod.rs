@@ -16,9 +16,6 @@ mod pairing;
 mod sha512;
 mod shared;
 mod slot;
-mod table;
-mod table_rules;
-mod table_write;
 
 use crate::calls::{Call, call_model};
 use crate::case::Case;
@@ -44,7 +41,7 @@ const fn fault(name: &'static str, what: &'static str, calls: &'static [Call], w
 pub fn faults() -> impl Iterator<Item = &'static Fault> {
     let of_logs = [log_entry::FAULTS, log::FAULTS, log_state::FAULTS, comparison::FAULTS];
     let of_hashes = [hash::FAULTS, sha512::FAULTS, hmac::FAULTS, pairing::FAULTS, certificate_slots::FAULTS];
-    let of_manifests = [slot::FAULTS, message::FAULTS, element::FAULTS, table::FAULTS, table_write::FAULTS];
+    let of_manifests = [slot::FAULTS, message::FAULTS, element::FAULTS];
     let others = [shared::FAULTS, meaning::FAULTS];
     of_logs.into_iter().chain(of_hashes).chain(of_manifests).chain(others).flatten()
 }
@@ -52,7 +49,7 @@ pub fn faults() -> impl Iterator<Item = &'static Fault> {
 /// The right rules, by the code that the faults vary: nothing of these may be found.
 pub fn rights() -> impl Iterator<Item = &'static Fault> {
     let of_hashes = [&hash::RIGHT, &hash::RIGHT_SHA256, &sha512::RIGHT, &hmac::RIGHT];
-    [&log_entry::RIGHT, &comparison::RIGHT, &table::RIGHT].into_iter().chain(of_hashes)
+    [&log_entry::RIGHT, &comparison::RIGHT].into_iter().chain(of_hashes)
 }
 
 /// What a library with a fault leaves. It begins as the model's outcome.

@@ -8,24 +8,23 @@ use crate::case::Case;
 use crate::model::slot::Slot;
 
 /// The calls of which each buffer's end is written past, with the buffer.
-const PAST: [(Call, &str); 7] = [
+const PAST: [(Call, &str); 6] = [
     (Sha384, "digest"),
     (Sha512, "digest"),
     (Hash, "hash"),
     (PairingKey, "pairing_key"),
     (LogReset, "buffer"),
     (SlotOpen, "active"),
-    (TableWrite, "table"),
 ];
 
 #[rustfmt::skip]
 pub const FAULTS: &[Fault] = &[
     fault("REFUSES_ALL", "everything is refused",
         &[Hash, HmacSha256, PairingKey, LogRecord, LogCheck, LogReplay, LogTextVerdict, LogCompare, SlotActivate,
-          Command, TableCheck, TableWrite, SignedImageRead],
+          Command, SignedImageRead],
         refuse_all),
     fault("PAST_BUFFER", "the byte behind the buffer is written",
-        &[Sha384, Sha512, Hash, PairingKey, LogReset, SlotOpen, TableWrite],
+        &[Sha384, Sha512, Hash, PairingKey, LogReset, SlotOpen],
         |found| {
             let past = PAST.iter().find(|(call, _)| *call == found.case.call && found.is_accepted());
             if let Some((_, buffer)) = past {
@@ -62,8 +61,6 @@ fn refuse_all(found: &mut Found) {
         SlotActivate => (!found.is(&[3, 4])).then_some(6),
         Command if found.case.bytes("message").get(4) == Some(&0x65) => found.is(&[0, 8, 9, 10]).then_some(6),
         Command => found.is_accepted().then_some(11),
-        TableCheck => found.is_accepted().then_some(13),
-        TableWrite => found.is_accepted().then_some(3),
         _ => Some(12),
     };
     if let Some(refusal) = refusal {

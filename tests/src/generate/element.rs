@@ -156,10 +156,10 @@ fn sometimes_unsound_image(rng: &mut Rng) -> Vec<u8> {
 }
 
 /// An index: of a part, one past the last, or where its product with a length overflows.
-pub fn index(count: u8, rng: &mut Rng) -> u64 {
+fn index(count: u8, rng: &mut Rng) -> u64 {
     let count = u64::from(count);
-    let far = [1 << 32, 1 << 58, 1 << 59, 1 << 61, (1 << 61) + 1, i64::MAX as u64, 1 << 63, u64::MAX];
-    let past = [count, count, count + 1, 255, 256, 256 + count / 2, rng.pick(&far), rng.pick(&far)];
+    let past =
+        [count, count + 1, 255, 256, 256 + count / 2, 1 << 32, 1 << 58, 1 << 59, 1 << 61, (1 << 61) + 1, u64::MAX];
     if rng.chance(75) { rng.below(count.max(1) as usize) as u64 } else { rng.pick(&past) }
 }
 

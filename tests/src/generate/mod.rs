@@ -10,13 +10,9 @@ pub mod log_state;
 pub mod message;
 pub mod pairing;
 pub mod slot;
-pub mod table;
-pub mod table_breaks;
-pub mod table_write;
 
-use crate::calls::{Call, FROM_LOGS, OVER_MANIFEST};
+use crate::calls::{Call, FROM_LOGS};
 use crate::case::Case;
-use crate::model::ANSWERS;
 use crate::model::log::ENTRY_LEN;
 use crate::rng::Rng;
 use log::LEGACY_ENTRY_LEN;
@@ -53,8 +49,6 @@ impl Generator {
             (Call::SlotManifest, _) => slot::manifest(rng),
             (Call::Header, _) => message::header(rng),
             (Call::Command, _) => message::command(rng),
-            (Call::TableWrite, _) => table_write::case(rng),
-            (call, _) if OVER_MANIFEST.contains(&call) => table::case(call, rng),
             _ => element::case(call, rng),
         }
     }
@@ -62,7 +56,7 @@ impl Generator {
 
 /// The call for a number's meaning.
 fn meaning(rng: &mut Rng) -> Case {
-    let number = if rng.chance(60) { rng.below(ANSWERS + 2) as u8 } else { rng.byte() };
+    let number = if rng.chance(60) { rng.below(15) as u8 } else { rng.byte() };
     let len = rng.pick(&[0, 1, 79, 80, 81, 100, 160]);
     let len = if rng.chance(60) { 80 + rng.below(40) } else { len };
     meaning_case(number, rng.bytes(len), rng)

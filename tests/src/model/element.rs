@@ -14,12 +14,12 @@ pub struct Region {
     pub end: u32,
 }
 
-pub(super) fn sound(holds: bool) -> Answer<()> {
+fn sound(holds: bool) -> Answer<()> {
     demand(holds, Refusal::MalformedElement)
 }
 
-/// Puts an element, or a table, into a buffer of exactly its length.
-pub(super) fn put(element: &[u8], buffer: &mut [u8]) -> Answer<()> {
+/// Puts an element into a buffer of exactly its length.
+fn put(element: &[u8], buffer: &mut [u8]) -> Answer<()> {
     demand(buffer.len() == element.len(), Refusal::WrongBuffer)?;
     buffer.copy_from_slice(element);
     Ok(())

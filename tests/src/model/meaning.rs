@@ -1,4 +1,4 @@
-//! The meanings of the refusal numbers, in the words of document 01's table; those of 13 are the header's.
+//! The meanings of the refusal numbers, in the words of document 01's table.
 
 use super::{ANSWERS, Answer, Refusal, demand};
 
@@ -18,7 +18,6 @@ const MEANINGS: [&str; ANSWERS - 1] = [
     "the signature was judged bad",
     "known, but not offered",
     "malformed element",
-    "wrong hash",
 ];
 
 /// The length of the meaning, which is put to the front of `text`.

@@ -1,4 +1,4 @@
-//! Document 01 and document 02, Items 1, 2, 4, 8, 13 and 14, in plain Rust, written from the papers and standards
+//! Document 01 and document 02, Items 2, 4, 8, 13 and 14, in plain Rust, written from the papers and standards
 //! alone. It is slow and plain on purpose: what it does should be seen at once to be what the paper says.
 
 pub mod certificate_slots;
@@ -14,9 +14,8 @@ pub mod roots;
 pub mod sha256;
 pub mod sha512;
 pub mod slot;
-pub mod table;
 
-/// Document 01's numbers that say no, and document 02's for a wrong hash.
+/// Document 01's numbers that say no.
 #[derive(Clone, Copy, Debug, PartialEq, Eq)]
 pub enum Refusal {
     ForeignHeader = 1,
@@ -31,11 +30,10 @@ pub enum Refusal {
     BadSignature = 10,
     NotOffered = 11,
     MalformedElement = 12,
-    WrongHash = 13,
 }
 
 /// So many numbers a call may answer: 0 and the refusals up to the last one.
-pub const ANSWERS: usize = 1 + Refusal::WrongHash as usize;
+pub const ANSWERS: usize = 1 + Refusal::MalformedElement as usize;
 
 pub type Answer<T> = Result<T, Refusal>;
 

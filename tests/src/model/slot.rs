@@ -127,15 +127,15 @@ pub fn activate(slot: Slot, signature_good: bool, pending: &[u8], active: &mut [
 }
 
 /// The manifest header's fields that are judged; 002 has them in this order, behind one another.
-pub struct Header {
+struct Header {
     length: u64,
     magic: u64,
     id: u32,
-    pub signature_length: u64,
+    signature_length: u64,
 }
 
 impl Header {
-    pub fn of(manifest: &[u8]) -> Header {
+    fn of(manifest: &[u8]) -> Header {
         Header {
             length: little_endian(&manifest[0..2]),
             magic: little_endian(&manifest[2..4]),
@@ -145,12 +145,9 @@ impl Header {
     }
 
     fn fits(&self, total: u64, magic: u16) -> bool {
-        self.has_lengths(total) && self.magic == u64::from(magic)
-    }
-
-    /// Activate's rules but the magic, for a manifest of so many bytes, which are no fewer than the header's.
-    pub fn has_lengths(&self, total: u64) -> bool {
-        self.length == total && (1..=total - HEADER_LEN).contains(&self.signature_length)
+        self.length == total
+            && self.magic == u64::from(magic)
+            && (1..=total - HEADER_LEN).contains(&self.signature_length)
     }
 }
 

@@ -10,9 +10,6 @@ pub mod log_state;
 pub mod message;
 pub mod pairing;
 pub mod slot;
-pub mod table;
-pub mod table_entries;
-pub mod table_write;
 
 use crate::generate::{certificate_slots_case, meaning_case};
 use crate::harness::Harness;

@@ -57,10 +57,6 @@ put-requires-12 : tie.Need-put-requires-12
 unfolding meaning_of
 put-requires-12 c κs = meant c.before.before.enum-told12.given.1
 
-put-requires-13 : tie.Need-put-requires-13
-unfolding meaning_of
-put-requires-13 c κs = meant c.before.before.enum-told13.given.1
-
 pub put_meaning_spec : {M : Type 1} → statement M
 put_meaning_spec =
     tie.close
@@ -69,7 +65,6 @@ put_meaning_spec =
     (λ c. search rules) (λ c. search rules) put-requires-4 (λ c. search rules) (λ c. search rules) put-requires-5 (λ c. search rules) (λ c. search rules) put-requires-6
     (λ c. search rules) (λ c. search rules) put-requires-7 (λ c. search rules) (λ c. search rules) put-requires-8 (λ c. search rules) (λ c. search rules) put-requires-9
     (λ c. search rules) (λ c. search rules) put-requires-10 (λ c. search rules) (λ c. search rules) put-requires-11 (λ c. search rules) (λ c. search rules) put-requires-12
-    (λ c. search rules) (λ c. search rules) put-requires-13 (λ c. search rules) (λ c. search rules)
     (λ c. search rules) (λ c. search rules) (λ c. search rules) (λ c. search rules) (λ c. search rules) (λ c. search rules) (λ c. search rules) (λ c. search rules)
     (λ c. search rules) (λ c. search rules) (λ c. search rules) (λ c. search rules) (λ c. search rules) (λ c. search rules) (λ c. search rules) (λ c. search rules)
     (λ c. search rules) (λ c. search rules) (λ c. search rules) (λ c. search rules) (λ c. search rules) (λ c. search rules) (λ c. search rules) (λ c. search rules))

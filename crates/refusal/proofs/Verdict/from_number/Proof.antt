@@ -81,11 +81,7 @@ returns-12 c = rw c.match.keys12
 
 returns-13 : tie.Need-returns-13
 unfolding verdict_of
-returns-13 c = rw c.match.keys13
-
-returns-14 : tie.Need-returns-14
-unfolding verdict_of
-returns-14 c = no_other c.before.args.number c.match.rest
+returns-13 c = no_other c.before.args.number c.match.rest
 
 pub from_number_spec : {M : Type 1} → statement M
-from_number_spec = tie.close (tie.spec returns returns-2 returns-3 returns-4 returns-5 returns-6 returns-7 returns-8 returns-9 returns-10 returns-11 returns-12 returns-13 returns-14)
+from_number_spec = tie.close (tie.spec returns returns-2 returns-3 returns-4 returns-5 returns-6 returns-7 returns-8 returns-9 returns-10 returns-11 returns-12 returns-13)
