@@ -1,5 +1,7 @@
 // The public calls for C, as include/cerberus.h declares them: plain numbers and byte slices, states as integers or bytes behind pointers, the number as the
 // result. Each takes its arguments apart and makes the one call that it stands for.
+#![tactic(auto)]
+
 pub mod binding;
 pub mod comparisons;
 pub mod digests;

@@ -1,17 +1,19 @@
 // The certificate slots of a device, as its challenge response tells them (document 02, Item 14): how many hold a chain, and which is the lowest.
+#![tactic(auto)]
+
 ghost use Rattle.std.specs.Prelude.{◌≡◌};
 ghost use Rattle.certificate_slots.specs.Slots.{chain_count, lowest_chain, lowest_of};
 
 // The number of a certificate slot, 0 to 7.
-#[derive(Drop)]
+#[derive(Clone, Copy)]
 pub struct CertificateSlot(pub u8);
 
 // A bit for each slot, set where the slot holds a chain; slot 0 is the bit worth 1.
-#[derive(Drop)]
+#[derive(Clone, Copy)]
 pub struct SlotMask(pub u8);
 
 // The lowest slot that holds a chain, or that none does.
-#[derive(Drop)]
+#[derive(Clone, Copy)]
 pub enum Lowest {
     NoChain,
     Slot(CertificateSlot),

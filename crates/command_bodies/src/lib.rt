@@ -1,4 +1,6 @@
 // The bodies of the commands, by 000's tables.
+#![tactic(auto)]
+
 ghost use Rattle.std.specs.Prelude.{◌≡◌};
 ghost use Rattle.refusal.specs.Refusals.{number_of};
 ghost use Rattle.refusal.specs.Steps.{reply};
@@ -8,7 +10,7 @@ use message_header::Command;
 use refusal::{Refusal, Verdict};
 
 // What a body asks for.
-#[derive(Drop)]
+#[derive(Clone, Copy)]
 pub enum Request {
     GetId,
     Prepare(u64),
@@ -16,7 +18,7 @@ pub enum Request {
     Activate,
 }
 
-#[derive(Drop)]
+#[derive(Clone, Copy)]
 pub enum Asked {
     Asks(Request),
     Refused(Refusal),

@@ -1,4 +1,6 @@
 // The four PCD commands over a manifest slot.
+#![tactic(auto)]
+
 ghost use Rattle.std.specs.Prelude.{◌≡◌};
 ghost use Rattle.refusal.specs.Refusals.{number_of};
 ghost use Rattle.requests.specs.Requests.{refused_answer, served, answered};

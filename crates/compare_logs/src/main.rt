@@ -1,5 +1,7 @@
 // Compares two recorded measurement logs, PMR by PMR. It writes which log is refused and why, or where the digests of each PMR first differ.
 // README.md, "The output of compare_logs", has the format.
+#![tactic(auto)]
+
 mod lines;
 mod words;
 

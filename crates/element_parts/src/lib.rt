@@ -1,5 +1,7 @@
 // What the manifest elements share: parts of a slice, runs of items of one width, and a writer's verdict. Each function is total, so that no test of an
 // element needs another to hold first.
+#![tactic(auto)]
+
 ghost use Rattle.std.specs.Prelude.{◌≡◌};
 ghost use Rattle.refusal.specs.Refusals.{number_of};
 ghost use Rattle.element_parts.specs.Parts.{write_number, item, item_count, bad_items};

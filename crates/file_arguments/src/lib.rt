@@ -1,4 +1,6 @@
 // The files that a program's arguments name, read into the caller's buffer.
+#![tactic(auto)]
+
 ghost use Rattle.std.specs.Prelude.{◌≡◌, length};
 ghost use Rattle.whole_io.specs.Transfers.{bytes_read, AtMost};
 ghost use Rattle.file_arguments.specs.Opened.{NoneUnopened};

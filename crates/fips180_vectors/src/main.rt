@@ -3,6 +3,8 @@
 // Each digest was computed by Python's hashlib, over OpenSSL, and by coreutils' sha256sum, sha384sum or sha512sum, which have code of their own: the two agree.
 // Those of the empty message, of "abc", of the message of 896 bits and of a million times "a", and SHA-256's of the message of 448 bits, were also compared
 // with the published ones as remembered. None was taken from this code.
+#![tactic(auto)]
+
 mod blocks_of_128;
 mod blocks_of_64;
 mod published;

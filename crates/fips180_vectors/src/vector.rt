@@ -1,7 +1,7 @@
 // One vector of one hash, which is one line of the report.
 use vector_report::Tally;
 
-#[derive(Drop)]
+#[derive(Clone, Copy)]
 pub(crate) enum Hash {
     Sha256,
     Sha384,

@@ -1,4 +1,6 @@
 // Hashes by a manifest's hash type: 0 is SHA-256, 1 SHA-384, 2 SHA-512.
+#![tactic(auto)]
+
 ghost use Rattle.std.specs.Prelude.{◌≡◌, ◌≤◌, length};
 ghost use Rattle.refusal.specs.Refusals.{number_of};
 ghost use Rattle.refusal.specs.Steps.{outcome};

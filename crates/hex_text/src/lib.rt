@@ -1,4 +1,6 @@
 // Bytes as hexadecimal text, for programs that compare what they compute with published values.
+#![tactic(auto)]
+
 ghost use Rattle.std.specs.Prelude.{◌≡◌, ◌<◌};
 ghost use Rattle.octets.specs.Octets.{same_bytes};
 ghost use Rattle.hex_text.specs.HexText.{digit_text, byte_text, hex_text};

@@ -1,5 +1,7 @@
 // HMAC-SHA-256 (FIPS 198-1) of a text under a key. What is worked out on the way, the padded key among it, stays in values of the functions here and goes
 // into no lent buffer.
+#![tactic(auto)]
+
 ghost use Rattle.std.specs.Prelude.{◌≡◌, ◌<◌, ◌^◌, length, replicate};
 ghost use Rattle.refusal.specs.Refusals.{number_of};
 ghost use Rattle.fips180.specs.Sha256.{sha256};
@@ -14,7 +16,7 @@ const INNER_PAD: u8 = 0x36;
 const OUTER_PAD: u8 = 0x5c;
 
 // A MAC; zeros where key or text is refused.
-#[derive(Drop)]
+#[derive(Clone, Copy)]
 pub struct Mac {
     pub verdict: Verdict,
     pub mac: [u8; 32],

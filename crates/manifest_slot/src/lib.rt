@@ -1,4 +1,6 @@
 // A manifest slot over two lent buffers: a manifest arrives in pieces and becomes active whole, signed and newer, or not at all.
+#![tactic(auto)]
+
 mod activate;
 mod open;
 mod prepare;
@@ -15,7 +17,7 @@ use refusal::{Refusal, Verdict};
 pub use slot_state::{Active, Transfer};
 
 // The state of a slot.
-#[derive(Drop)]
+#[derive(Clone, Copy)]
 pub struct Slot {
     // The magic number that its manifests have.
     pub magic: u16,
@@ -24,20 +26,20 @@ pub struct Slot {
 }
 
 // A call's verdict, and the next slot: the one handed in where the call refuses.
-#[derive(Drop)]
+#[derive(Clone, Copy)]
 pub struct Answer {
     pub verdict: Verdict,
     pub slot: Slot,
 }
 
-#[derive(Drop)]
+#[derive(Clone, Copy)]
 pub enum Opening {
     Opened(Slot),
     Refused(Refusal),
 }
 
 // Which of a slot's manifests is asked for.
-#[derive(Drop)]
+#[derive(Clone, Copy)]
 pub enum Role {
     Active,
     Pending,

@@ -1,4 +1,6 @@
 // The Cerberus message header (document 000, "Attestation Protocol Format"): whether a message is ours, and the command that it names.
+#![tactic(auto)]
+
 mod flags;
 
 ghost use Rattle.std.specs.Prelude.{◌≡◌};
@@ -8,7 +10,7 @@ use flags::{crypt, request_type, reserved_set};
 use refusal::Refusal;
 
 // The commands of document 000's table that are offered.
-#[derive(Drop)]
+#[derive(Clone, Copy)]
 pub enum Command {
     GetPcdId,
     PreparePcd,
@@ -17,7 +19,7 @@ pub enum Command {
 }
 
 // The command that a header names, or its refusal.
-#[derive(Drop)]
+#[derive(Clone, Copy)]
 pub enum Heading {
     Named(Command),
     Refused(Refusal),

@@ -1,5 +1,7 @@
 // Bytes in lent slices. Each function is total: a byte past the end reads as 0, and a run of bytes that does not fit is not
 // put. Numbers of several bytes are little-endian.
+#![tactic(auto)]
+
 ghost use Rattle.std.specs.Prelude.{◌≡◌, get_or, take, drop};
 ghost use Rattle.octets.specs.Octets.{number_at, bytes_of, bytes_at, pasted, zeroed_from, same_bytes, all_zero, replaced_by};
 

@@ -1,5 +1,7 @@
 // The pairing key of two devices that are bound to each other (document 000, "Secure Device Binding Sequence"; document 02, Item 14), derived from the key
 // of their session: NIST SP 800-108 in counter mode, with HMAC-SHA-256, one iteration of which gives all 256 bits.
+#![tactic(auto)]
+
 ghost use Rattle.std.specs.Prelude.{◌≡◌, []};
 ghost use Rattle.refusal.specs.Refusals.{number_of};
 ghost use Rattle.refusal.specs.Steps.{outcome};

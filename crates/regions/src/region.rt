@@ -7,14 +7,14 @@ ghost use Rattle.regions.specs.Region.{region_at, end_is_last, region_reply, reg
 
 use refusal::Verdict;
 
-#[derive(Drop)]
+#[derive(Clone, Copy)]
 pub struct Region {
     pub start: u32,
     // The last valid address. One past it may not fit, and is never formed.
     pub end: u32,
 }
 
-#[derive(Drop)]
+#[derive(Clone, Copy)]
 pub enum RegionRead {
     Read(Region),
     Malformed,

@@ -9,7 +9,7 @@ ghost use Rattle.regions.specs.RwRegion.{operation_number, bad_operation, operat
 use crate::region::Region;
 use refusal::Verdict;
 
-#[derive(Drop)]
+#[derive(Clone, Copy)]
 pub enum Operation {
     Nothing,
     Restore,
@@ -19,19 +19,19 @@ pub enum Operation {
 }
 
 // What a number handed in stands for: one that two bits can't hold is no operation.
-#[derive(Drop)]
+#[derive(Clone, Copy)]
 pub enum OperationRead {
     Defined(Operation),
     Undefined,
 }
 
-#[derive(Drop)]
+#[derive(Clone, Copy)]
 pub struct RwRegion {
     pub operation: Operation,
     pub region: Region,
 }
 
-#[derive(Drop)]
+#[derive(Clone, Copy)]
 pub enum RwRegionRead {
     Read(RwRegion),
     Malformed,

@@ -1,4 +1,6 @@
 // A request on one slot with its two buffers and the response. Buffers, state and body are judged by then.
+#![tactic(auto)]
+
 ghost use Rattle.std.specs.Prelude.{◌≡◌};
 ghost use Rattle.requests.specs.Requests.{valid_byte, id_reply, silent, served, served_step, answered};
 
@@ -8,7 +10,7 @@ use message_header::OPENING;
 use refusal::Verdict;
 
 // A command's verdict, the next slot, and how many bytes of response it wrote.
-#[derive(Drop)]
+#[derive(Clone, Copy)]
 pub struct Answer {
     pub verdict: Verdict,
     pub slot: Slot,

@@ -1,4 +1,6 @@
 // The root CAs of a CFM (002, RootCAs): hashes of the root certificates that are trusted. The type of the hashes is the manifest's, and the caller gives it.
+#![tactic(auto)]
+
 ghost use Rattle.std.specs.Prelude.{◌≡◌};
 ghost use Rattle.refusal.specs.Refusals.{number_of};
 ghost use Rattle.refusal.specs.Steps.{outcome, reply};
@@ -10,12 +12,12 @@ use hash::hash_length;
 use refusal::{Refusal, Verdict};
 
 // How many hashes there are; the hashes are a part of the element.
-#[derive(Drop)]
+#[derive(Clone, Copy)]
 pub struct RootCas {
     pub count: u8,
 }
 
-#[derive(Drop)]
+#[derive(Clone, Copy)]
 pub enum RootCasRead {
     Read(RootCas),
     Malformed,

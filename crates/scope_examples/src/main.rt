@@ -1,5 +1,7 @@
 // Runs document 01's "Examples at the edges" of manifests that are not marked P; says of each whether it came out as written there. Those marked P are the
 // table in specs/; those of the measurement log are the program `log_examples`.
+#![tactic(auto)]
+
 mod elements_examples;
 mod slot_examples;
 

@@ -1,4 +1,6 @@
 // SHA-256 (FIPS 180-4) of a slice of bytes.
+#![tactic(auto)]
+
 mod initial_hash_value;
 mod message;
 
@@ -13,7 +15,7 @@ use sha256_blocks::whole_blocks;
 pub const TOO_LONG: usize = 0x2000_0000_0000_0000;
 
 // A digest; zeros where the message is refused.
-#[derive(Drop)]
+#[derive(Clone, Copy)]
 pub struct Hashed {
     pub verdict: Verdict,
     pub digest: [u8; 32],

@@ -1,4 +1,6 @@
 // The hash value of SHA-256 over whole blocks (FIPS 180-4, 6.2.2).
+#![tactic(auto)]
+
 mod block;
 mod constants;
 mod schedule;

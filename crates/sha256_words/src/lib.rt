@@ -1,4 +1,6 @@
 // FIPS 180-4, 3.2 and 4.1.2: the operations and functions on words of 32 bits.
+#![tactic(auto)]
+
 ghost use Rattle.std.specs.Prelude.{◌≡◌, ◌<◌};
 ghost use Rattle.fips180.specs.Words.{rotr, ch, maj};
 ghost use Rattle.fips180.specs.Family.{big_sigma0, big_sigma1, small_sigma0, small_sigma1};

@@ -1,4 +1,6 @@
 // SHA-384 and SHA-512 (FIPS 180-4) of a slice of bytes. None is refused: FIPS 180-4 defines both for messages below 2^125 bytes.
+#![tactic(auto)]
+
 mod initial_hash_value;
 mod message;
 

@@ -1,4 +1,6 @@
 // The hash value of SHA-384 and SHA-512 over whole blocks (FIPS 180-4, 6.4.2).
+#![tactic(auto)]
+
 mod block;
 mod constants;
 mod schedule;

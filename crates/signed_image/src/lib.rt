@@ -1,4 +1,6 @@
 // A signed image (002, SignedImage): the regions of flash that one hash covers.
+#![tactic(auto)]
+
 ghost use Rattle.std.specs.Prelude.{◌≡◌};
 ghost use Rattle.laws.specs.Tests.{bit_of};
 ghost use Rattle.refusal.specs.Refusals.{number_of};
@@ -12,14 +14,14 @@ use refusal::Verdict;
 use regions::region::{Region, RegionRead};
 
 // The fields but for the hash and the regions, which are parts of the element.
-#[derive(Drop)]
+#[derive(Clone, Copy)]
 pub struct SignedImage {
     pub hash_type: u8,
     pub region_count: u8,
     pub must_validate: bool,
 }
 
-#[derive(Drop)]
+#[derive(Clone, Copy)]
 pub enum SignedImageRead {
     Read(SignedImage),
     Malformed,

@@ -1,4 +1,6 @@
 // The parts of a manifest slot's state, and what is asked of each by itself: limits, buffers, the active manifest, the transfer. Each function is total.
+#![tactic(auto)]
+
 mod progress;
 mod rules;
 mod sound;
@@ -19,14 +21,14 @@ pub const BUFFER_LEN: usize = 4096;
 pub const SHORTEST: usize = 13;
 
 // The active manifest: length 0 and id 0 where there is none.
-#[derive(Drop)]
+#[derive(Clone, Copy)]
 pub struct Active {
     pub length: usize,
     pub id: VersionId,
 }
 
 // The manifest that is arriving.
-#[derive(Drop)]
+#[derive(Clone, Copy)]
 pub enum Transfer {
     Idle,
     Receiving { total: usize, received: usize },

@@ -1,4 +1,6 @@
 // A line for each vector that a program runs, and how many there were: what was computed is compared with the hexadecimal text that was published.
+#![tactic(auto)]
+
 pub mod counting;
 
 ghost use Rattle.std.specs.Prelude.{◌≡◌, true};

@@ -1,4 +1,6 @@
 // Reads and writes on a file descriptor that are whole or have failed. A call that a signal interrupted is made again.
+#![tactic(auto)]
+
 ghost use Rattle.std.specs.Prelude.{◌≡◌, true, ◌-◌, ◌≤◌, length};
 ghost use Rattle.whole_io.specs.Calls.{moved_by};
 ghost use Rattle.whole_io.specs.Transfers.{step_after, bytes_read, AtMost};
@@ -9,7 +11,7 @@ use libc::EINTR;
 pub const INTERRUPTIONS: usize = 65536;
 
 // What one call of read or write did.
-#[derive(Drop)]
+#[derive(Clone, Copy)]
 pub enum Moved {
     Bytes(usize),
     // The file's end, or a write that took no byte.
@@ -19,14 +21,14 @@ pub enum Moved {
 }
 
 // What a reading found: how many bytes there are up to the file's end or the buffer's, or that some call failed, before which bytes may have come.
-#[derive(Drop)]
+#[derive(Clone, Copy)]
 pub enum Reading {
     Whole(usize),
     Failed,
 }
 
 // How a reading or a writing goes on after a call.
-#[derive(Drop)]
+#[derive(Clone, Copy)]
 pub(crate) enum Step {
     // So many bytes are done, and so many interruptions still allowed.
     Again(usize, usize),
