@@ -3,7 +3,7 @@ ghost use Rattle.std.specs.Prelude.{◌≡◌, ◌<◌, length, set};
 ghost use Rattle.fips180.specs.Padding.{word_at};
 ghost use Rattle.fips180.specs.Groups.{queue_word};
 ghost use Rattle.fips180.specs.Sha256.{family32};
-ghost use Rattle.sha256_blocks.specs.Contracts.{Wide};
+ghost use Rattle.sha256_blocks.specs.Bytes.{Wide};
 
 use sha256_words::{add, small_sigma0, small_sigma1};
 

@@ -1,0 +1,15 @@
+use Rattle.std.proofs.Common.{◌∙◌, rules}
+use Rattle.refusal.proofs.Steps.{first_refused, first_passed}
+use Rattle.manifest_slot.specs.Calls.{activate_lent, activate_number, activate_step}
+use Rattle.manifest_slot.proofs.Answers.{refused_is}
+use Rattle.manifest_slot.proofs.Slot.activate.Goals as goal
+
+pub returns-in-Refused : goal.returns-in-Refused
+unfolding activate_number activate_step
+returns-in-Refused c =
+    refused_is _ _ c.refused.ensures ∙ first_refused _ _ _ c.lent_verdict-verdict.ensures c.in-Refused.is
+
+pub returns : goal.returns
+unfolding activate_lent activate_number activate_step
+returns c =
+    first_passed _ _ c.lent_verdict-verdict.ensures c.in_default.is c.activate_lent.ensures

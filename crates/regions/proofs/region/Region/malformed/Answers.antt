@@ -1,0 +1,6 @@
+use borrow.Author.Rules.{rules}
+use Rattle.regions.proofs.Regions.{region_judged}
+use Rattle.regions.proofs.region.Region.malformed.Goals as goal
+
+pub returns : goal.returns
+returns c = region_judged _ _ c.unsound.ensures c.at-region.ensures

@@ -1,0 +1,12 @@
+use Prim.Native.Nat.{◌-◌}
+use native.Mathlib.Omega.{arith}
+use borrow.Author.Rules.{rules}
+use Rattle.fips180.specs.Sha512.{family64}
+use Rattle.fips180.proofs.Round.{Summed, summed_none, summed_next, summed_all}
+use Rattle.sha512_blocks.proofs.block.sums.Goals as goal
+
+pub loop-i-init : goal.loop-i-init
+loop-i-init c = summed_none family64 _ _ (search rules)
+
+pub loop-i-preserved : goal.loop-i-preserved
+loop-i-preserved c = summed_next family64 (omega arith) c.loop-i.invariant c.add.ensures
