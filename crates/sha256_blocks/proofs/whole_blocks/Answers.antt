@@ -1,10 +1,6 @@
-use Prim.Native.Nat.{◌+◌, ◌-◌, ◌*◌, ◌/◌, ◌≤◌}
-use mathlib.Core.Path.{◌≡◌, ap, ◌∙◌}
+use Prim.Native.Nat.{◌+◌, ◌-◌, ◌*◌}
 use native.Mathlib.Omega.{arith}
-use lib.ListN.{length}
-use borrow.Author.Rules.{rules}
 use Rattle.fips180.specs.Family.{block_bytes}
-use Rattle.fips180.specs.Hash.{hash_value}
 use Rattle.fips180.specs.Sha256.{family32}
 use Rattle.fips180.proofs.LastBlocks.{whole_none, whole_more}
 use Rattle.sha256_blocks.proofs.whole_blocks.Goals as goal

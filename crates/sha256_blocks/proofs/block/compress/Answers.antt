@@ -1,9 +1,8 @@
-use Prim.Native.Nat.{◌-◌, ◌%◌, ◌≤◌}
-use mathlib.Core.Path.{◌≡◌, ◌∙◌}
+use mathlib.Core.Path.{◌∙◌}
 use native.Mathlib.Omega.{arith}
 use borrow.Author.Rules.{rules}
 use Rattle.fips180.specs.Sha256.{family32}
-use Rattle.fips180.proofs.Groups.{Group, group_first, group_next, group_last}
+use Rattle.fips180.proofs.Groups.{group_first, group_next, group_last}
 use Rattle.sha256_blocks.proofs.block.compress.Goals as goal
 
 pub loop-t-init : goal.loop-t-init

@@ -1,9 +1,7 @@
 use Prim.Native.Nat.{◌-◌, ◌%◌, ◌≤◌}
-use mathlib.Core.Path.{◌≡◌, ◌∙◌}
-use native.Mathlib.Omega.{arith}
-use borrow.Author.Rules.{rules}
+use mathlib.Core.Path.{◌≡◌}
 use Rattle.fips180.specs.Sha256.{family32}
-use Rattle.fips180.proofs.Groups.{Group, group_first, group_next, group_last}
+use Rattle.fips180.proofs.Groups.{Group}
 use Rattle.sha256_blocks.proofs.block.compress.Given as goal
 
 abbrev pub invariant-loop-t : goal.invariant-loop-t

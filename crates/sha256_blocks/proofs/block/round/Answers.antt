@@ -1,4 +1,3 @@
-use borrow.Author.Rules.{rules}
 use Rattle.fips180.specs.Family.{word_bits}
 use Rattle.fips180.specs.Sha256.{family32}
 use Rattle.fips180.specs.Hash.{round}

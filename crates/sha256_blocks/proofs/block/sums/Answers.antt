@@ -1,8 +1,7 @@
-use Prim.Native.Nat.{◌-◌}
 use native.Mathlib.Omega.{arith}
 use borrow.Author.Rules.{rules}
 use Rattle.fips180.specs.Sha256.{family32}
-use Rattle.fips180.proofs.Round.{Summed, summed_none, summed_next, summed_all}
+use Rattle.fips180.proofs.Round.{summed_none, summed_next}
 use Rattle.sha256_blocks.proofs.block.sums.Goals as goal
 
 pub loop-i-init : goal.loop-i-init

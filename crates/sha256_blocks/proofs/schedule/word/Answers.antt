@@ -1,7 +1,6 @@
 use mathlib.Core.Path.{refl}
 use mathlib.Core.List.{[], ◌∷◌}
 use native.Mathlib.Omega.{arith}
-use borrow.Author.Rules.{rules}
 use Rattle.fips180.specs.Sha256.{family32}
 use Rattle.fips180.specs.Padding.{from_big}
 use Rattle.fips180.proofs.Schedule.{word_read}

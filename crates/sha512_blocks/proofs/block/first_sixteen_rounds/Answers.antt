@@ -1,16 +1,27 @@
-use Rattle.fips180.specs.Groups.{queue_word, advanced, rounds_from}
-use Rattle.fips180.specs.Hash.{round, sums, compress}
-use Rattle.fips180.specs.Padding.{words_of}
-use Rattle.std.proofs.Common.{◌≡◌, ◌<◌, ◌≤◌, ◌%◌, length, get_or, set, ℕ, ◌+◌, ◌-◌, ◌*◌, ◌/◌, Bool, true, false, nat_eq, nat_lt, List, [], ◌∷◌, ◌++◌, bit_and, bit_or, Fits, w8, w32, w64, Bor, MutBor}
-use mathlib.Core.Path.{◌∙◌}
-use borrow.Author.Rules.{rules}
+use Rattle.std.proofs.Common.{◌∙◌}
 use Rattle.fips180.specs.Padding.{word_at}
 use Rattle.fips180.specs.Sha512.{family64}
 use Rattle.fips180.proofs.Groups.{sixteen_rounds, filled_block}
 use Rattle.sha512_blocks.proofs.block.first_sixteen_rounds.Goals as goal
 
-pub returns-clause-queue : goal.returns-clause-queue
-returns-clause-queue c = ?
-
-pub returns-clause-state : goal.returns-clause-state
-returns-clause-state c = ?
+pub returns : goal.returns
+returns c =
+    let a = c.args in
+    let done = sixteen_rounds family64 (λ i _. word_at family64 a.b.now i) _ a.w.now a.s 0 c.constants_from-k.ensures
+    (c.first_round-s1.ensures.queue, c.first_round-s1.ensures.state)
+    (c.first_round-s2.ensures.queue, c.first_round-s2.ensures.state)
+    (c.first_round-s3.ensures.queue, c.first_round-s3.ensures.state)
+    (c.first_round-s4.ensures.queue, c.first_round-s4.ensures.state)
+    (c.first_round-s5.ensures.queue, c.first_round-s5.ensures.state)
+    (c.first_round-s6.ensures.queue, c.first_round-s6.ensures.state)
+    (c.first_round-s7.ensures.queue, c.first_round-s7.ensures.state)
+    (c.first_round-s8.ensures.queue, c.first_round-s8.ensures.state)
+    (c.first_round-s9.ensures.queue, c.first_round-s9.ensures.state)
+    (c.first_round-s10.ensures.queue, c.first_round-s10.ensures.state)
+    (c.first_round-s11.ensures.queue, c.first_round-s11.ensures.state)
+    (c.first_round-s12.ensures.queue, c.first_round-s12.ensures.state)
+    (c.first_round-s13.ensures.queue, c.first_round-s13.ensures.state)
+    (c.first_round-s14.ensures.queue, c.first_round-s14.ensures.state)
+    (c.first_round-s15.ensures.queue, c.first_round-s15.ensures.state)
+    (c.first_round.ensures.queue, c.first_round.ensures.state) in
+    record { queue = done.0 ∙ filled_block family64 a.b.now a.w.now c.requires.1; state = done.1 }

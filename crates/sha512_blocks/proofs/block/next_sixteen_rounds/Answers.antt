@@ -1,15 +1,27 @@
-use Rattle.fips180.specs.Groups.{rounds_from}
-use Rattle.fips180.specs.Hash.{round, sums, compress}
-use Rattle.fips180.specs.Padding.{word_at, words_of}
-use Rattle.std.proofs.Common.{◌≡◌, ◌<◌, ◌≤◌, ◌%◌, length, get_or, set, ℕ, ◌+◌, ◌-◌, ◌*◌, ◌/◌, Bool, true, false, nat_eq, nat_lt, List, [], ◌∷◌, ◌++◌, bit_and, bit_or, Fits, w8, w32, w64, Bor, MutBor}
-use borrow.Author.Rules.{rules}
 use Rattle.fips180.specs.Sha512.{family64}
 use Rattle.fips180.specs.Groups.{queue_word, advanced}
 use Rattle.fips180.proofs.Groups.{sixteen_rounds}
 use Rattle.sha512_blocks.proofs.block.next_sixteen_rounds.Goals as goal
 
-pub returns-clause-queue : goal.returns-clause-queue
-returns-clause-queue c = ?
-
-pub returns-clause-state : goal.returns-clause-state
-returns-clause-state c = ?
+pub returns : goal.returns
+unfolding advanced
+returns c =
+    let a = c.args in
+    let done = sixteen_rounds family64 (queue_word family64) _ a.w.now a.s a.t c.constants_from-k.ensures
+    (c.next_round-s1.ensures.queue, c.next_round-s1.ensures.state)
+    (c.next_round-s2.ensures.queue, c.next_round-s2.ensures.state)
+    (c.next_round-s3.ensures.queue, c.next_round-s3.ensures.state)
+    (c.next_round-s4.ensures.queue, c.next_round-s4.ensures.state)
+    (c.next_round-s5.ensures.queue, c.next_round-s5.ensures.state)
+    (c.next_round-s6.ensures.queue, c.next_round-s6.ensures.state)
+    (c.next_round-s7.ensures.queue, c.next_round-s7.ensures.state)
+    (c.next_round-s8.ensures.queue, c.next_round-s8.ensures.state)
+    (c.next_round-s9.ensures.queue, c.next_round-s9.ensures.state)
+    (c.next_round-s10.ensures.queue, c.next_round-s10.ensures.state)
+    (c.next_round-s11.ensures.queue, c.next_round-s11.ensures.state)
+    (c.next_round-s12.ensures.queue, c.next_round-s12.ensures.state)
+    (c.next_round-s13.ensures.queue, c.next_round-s13.ensures.state)
+    (c.next_round-s14.ensures.queue, c.next_round-s14.ensures.state)
+    (c.next_round-s15.ensures.queue, c.next_round-s15.ensures.state)
+    (c.next_round.ensures.queue, c.next_round.ensures.state) in
+    record { queue = done.0; state = done.1 }

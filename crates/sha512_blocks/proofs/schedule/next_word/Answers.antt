@@ -1,4 +1,3 @@
-use borrow.Author.Rules.{rules}
 use Rattle.fips180.specs.Groups.{queue_word}
 use Rattle.sha512_blocks.proofs.schedule.next_word.Goals as goal
 
