@@ -28,6 +28,7 @@ impl SlotMask {
         u8::count_ones(mask) as u8
     }
 
+    #[tactic(auto, using(crate::proofs::Meaning::lowest_none, crate::proofs::Meaning::lowest_some))]
     pub fn lowest(self) -> Lowest
         ensures { lowest_of result ≡ lowest_chain self.0 }
     {

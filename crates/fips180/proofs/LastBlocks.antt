@@ -52,9 +52,9 @@ module _ (f : Family) (positive : 0 < f.word_bytes) where
     pub length_tail_block : length (tail_block f m) ≡ block_bytes f
     unfolding tail_block
     length_tail_block =
-        let l = length_all in
+        let l = length_tail in
         let h = over_lt in
-        length_padded (block_bytes f) (tail ++ (0x80 ∷ [])) (omega arith)
+        length_padded (block_bytes f) _ (omega (arith, length-append {A = ℕ}))
 
     -- ---- its bytes
 

@@ -1,6 +1,4 @@
-use native.Mathlib.Nat.{lt_of_le_of_lt}
 use native.Mathlib.Omega.{arith}
-use lib.Count.{ones-le}
 use Rattle.certificate_slots.specs.Slots.{chains, chain_count}
 use Rattle.certificate_slots.proofs.Bits.{ones_count}
 use Rattle.certificate_slots.proofs.SlotMask.chain_count.Goals as goal

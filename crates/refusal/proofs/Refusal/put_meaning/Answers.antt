@@ -1,5 +1,4 @@
 use mathlib.Core.Path.{◌≡◌, sym, ap}
-use borrow.Author.Rules.{rules}
 use Rattle.refusal.specs.declared.Refusal.{Refusal}
 use Rattle.refusal.specs.Refusals.{meaning_of}
 use Rattle.refusal.proofs.Refusal.put_meaning.Goals as goal
