@@ -45,6 +45,7 @@ fn last_block(s: &mut [u32; 8], b: &mut [u8; 64], n: usize)
 }
 
 // The hash value s brought forward by all that is left: the last blocks, one or two, are put together.
+#[tactic(auto, using(crate::proofs::LastBlocks::one_block, crate::proofs::LastBlocks::two_blocks))]
 fn hash_value(s: &mut [u32; 8], k: usize, m: &[u8])
     requires { k * 64 + length m.now < 2 ^ 61 }
     ensures { s.new ≡ hash_after family32 s.old k m.now }
