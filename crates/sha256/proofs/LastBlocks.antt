@@ -1,4 +1,5 @@
--- The last blocks of SHA-256, one or two, with the lengths as code has them.
+-- The last blocks of SHA-256, one or two, with the lengths as code has them: b is the tail of the message m, s the hash value over its whole blocks, from h, and
+-- n its length with that of the k blocks before it.
 use Rattle.std.proofs.Common.{ℕ, ◌+◌, ◌*◌, ◌/◌, ◌%◌, ◌<◌, ◌≤◌, ◌≡◌, List, length, replicate, arith, ap, ◌∙◌}
 use Rattle.fips180.specs.Family.{block_bytes, length_bytes}
 use Rattle.fips180.specs.Hash.{compress, hash_value}

@@ -48,6 +48,7 @@ fn last_block(s: &mut [u64; 8], b: &mut [u8; 128], n: usize)
 }
 
 // The hash value s brought forward by all of the message: the last blocks, one or two, are put together.
+#[tactic(auto, using(crate::proofs::LastBlocks::one_block, crate::proofs::LastBlocks::two_blocks))]
 fn hash_value(s: &mut [u64; 8], m: &[u8])
     ensures { s.new ≡ hash_after family64 s.old 0 m.now }
 {
