@@ -1,3 +1,4 @@
 pub mod Types
 pub mod Numbers
+pub mod Padded
 pub mod Claim

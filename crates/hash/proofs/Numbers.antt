@@ -6,12 +6,12 @@ use mathlib.Core.List.{List}
 use native.Mathlib.Omega.{arith}
 use lib.Dec.{eqb}
 use lib.ListN.{length, take}
-use borrow.Author.Tests.{lt-ltb, le-ltb, ltb-false, ne_eqb, eq-eqb, leb-false}
+use borrow.Author.Tests.{le-ltb, ltb-false, eq-eqb, leb-false}
 use Rattle.refusal.specs.declared.Verdict.{Verdict}
 use Rattle.refusal.specs.declared.Verdict.TheVariants.{Accepted}
 use Rattle.refusal.specs.Refusals.{number_of}
 use Rattle.refusal.specs.Rules.{◌when◌else◌}
-use Rattle.refusal.proofs.Laws.{when_yes, when_no, when_accepted, accepted_yes, accepted_no, says_yes}
+use Rattle.refusal.proofs.Laws.{when_no, when_accepted, accepted_yes, accepted_no, says_yes}
 use Rattle.laws.proofs.Tests.{and_right, equal_no, no_equal}
 use Rattle.octets.specs.Octets.{same_bytes, padded, pasted}
 use Rattle.octets.proofs.Buffers.{pasted_whole}
@@ -20,14 +20,6 @@ use Rattle.hash.specs.Calls.{too_long, hash_number, hash_matches}
 use Rattle.hash.proofs.Types.{length_bound, hash_long, hash_cut}
 
 module _ (t n k : ℕ) where
-  pub number_type : 2 < t → hash_number t n k ≡ 12
-  unfolding hash_number
-  number_type h = when_yes 12 _ (lt-ltb 2 t h)
-
-  pub number_buffer : t ≤ 2 → (k ≡ hash_length t → ⊥) → hash_number t n k ≡ 3
-  unfolding hash_number
-  number_buffer h f = when_no 12 _ (le-ltb 2 t h) ∙ when_yes 3 _ (ap not (ne_eqb k (hash_length t) f))
-
   -- the type is defined and the buffer has its length
   pub number_rest : t ≤ 2 → k ≡ hash_length t → hash_number t n k ≡ (2 when too_long t n else 0)
   unfolding hash_number

@@ -25,6 +25,7 @@ pub fn hash_length(hash_type: u8) -> usize
     }
 }
 
+#[tactic(auto, unfolding(crate::specs::Calls::hash_number))]
 fn hash_verdict(hash_type: u8, message_len: usize, hash_len: usize) -> Verdict
     ensures { number_of result ≡ hash_number hash_type message_len hash_len }
 {
@@ -41,6 +42,7 @@ fn hash_verdict(hash_type: u8, message_len: usize, hash_len: usize) -> Verdict
 }
 
 // The hash, and zeros behind it.
+#[tactic(auto, using(crate::proofs::Padded::padded_sha256, crate::proofs::Padded::padded_sha384, crate::proofs::Padded::padded_sha512))]
 fn padded_hash(hash_type: u8, message: &[u8]) -> [u8; 64]
     requires { hash_number hash_type (length message.now) (hash_length hash_type) ≡ 0 }
     ensures { result ≡ padded 64 (hash_of hash_type message.now) }
