@@ -6,7 +6,7 @@ use mathlib.Core.Bool.{Bool, true, false, not, ◌||◌, false≢true}
 use mathlib.Core.List.{List, [], ◌∷◌}
 use native.Mathlib.Omega.{arith}
 use native.Mathlib.Numerals.{one-add}
-use borrow.Author.Tests.{eq-eqb, ne_eqb, eqb-true, eqb-false, le-ltb, not-false}
+use borrow.Author.Tests.{eq-eqb, ne_eqb, eqb-true, eqb-false, lt-ltb, le-ltb, not-false}
 use lib.Bits.{bit_and, and_mask}
 use lib.Pow.{mod-pow-add, pow_pos}
 use lib.Dec.{eqb}
@@ -90,6 +90,11 @@ or_three : (a b c d : Bool) → (a || (b || (c || d))) ≡ ((a || (b || c)) || d
 or_three true b c d = refl
 or_three false true c d = refl
 or_three false false c d = refl
+
+-- a message that has no header is foreign
+pub foreign_short : (m : List ℕ) → length m < header_length → true ≡ foreign m
+unfolding foreign
+foreign_short m h = sym (rw (lt-ltb (length m) header_length h))
 
 -- a message that has a header is foreign by its opening or by a reserved bit
 pub foreign_is : (m : List ℕ) → Bytes m → header_length ≤ length m → foreign m ≡ (not (same_bytes (take 3 m) opening) || reserved_set (flags m))

@@ -45,6 +45,7 @@ impl Command {
     }
 }
 
+#[tactic(auto, using(crate::proofs::Bits::foreign_short))]
 fn foreign(message: &[u8]) -> bool
     ensures { result ≡ foreign message.now }
 {

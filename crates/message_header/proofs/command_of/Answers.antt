@@ -1,5 +1,4 @@
 use mathlib.Core.Path.{sym, ap, ◌∙◌}
-use borrow.Author.Rules.{rules}
 use Rattle.message_header.specs.Header.{lookup, offered, command_of}
 use Rattle.message_header.proofs.command_of.Goals as goal
 

@@ -1,5 +1,4 @@
 use mathlib.Core.Path.{sym, ap, ◌∙◌}
-use borrow.Author.Rules.{rules}
 use Rattle.message_header.specs.Header.{request_type, crypt, unoffered_kind}
 use Rattle.message_header.proofs.unoffered_kind.Goals as goal
 
