@@ -16,7 +16,6 @@ use Rattle.slot_state.proofs.Accepted.{open_accepted, payload_accepted}
 use Rattle.manifest_slot.specs.declared.Slot.{Slot}
 use Rattle.manifest_slot.specs.declared.Answer.{Answer}
 use Rattle.manifest_slot.specs.declared.Role.{Role}
-use Rattle.manifest_slot.specs.declared.Role
 use Rattle.manifest_slot.specs.Slot.{fresh, advanced, transferring, Held, held}
 use Rattle.manifest_slot.specs.Calls.{answered, refused_answer, open_step, lent_number, updated, update_lent, update_step, activate_rule, activated_slot, activate_lent, manifest_of, read_step}
 use Rattle.manifest_slot.proofs.Accepted.{lent_fits}

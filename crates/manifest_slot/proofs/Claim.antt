@@ -1,7 +1,6 @@
 -- The claim of specs/Sequences.antt.
 use Rattle.std.proofs.Common.{[], ◌∙◌}
 use Rattle.manifest_slot.specs.declared.Role.{Role}
-use Rattle.manifest_slot.specs.declared.Role
 use Rattle.manifest_slot.specs.Calls.{open_step}
 use Rattle.manifest_slot.specs.Sequences.{after_all, SlotClaim}
 use Rattle.manifest_slot.proofs.Steps.{step_keeps}

@@ -5,7 +5,6 @@ use Rattle.octets.specs.Octets.{zeros}
 use Rattle.slot_state.specs.State.{buffer_length}
 use Rattle.slot_state.specs.Rules.{prepare_rule, update_rule}
 use Rattle.manifest_slot.specs.declared.Role.{Role}
-use Rattle.manifest_slot.specs.declared.Role
 use Rattle.manifest_header.specs.Header.{header_unfit}
 use Rattle.manifest_slot.specs.Slot.{unsound, fresh, Held, held}
 use Rattle.manifest_slot.specs.Calls.{open_step, lent_number, prepare_number, prepare_step, update_number, update_step, pending_rule, activate_rule, activate_number, activate_step, read_step}

@@ -1,5 +1,5 @@
 -- Over a list of calls the reader gives back what the updates brought.
-use Rattle.std.proofs.Common.{◌≡◌, ℕ, ◌+◌, ◌-◌, List, [], ◌∷◌, ◌++◌, length, take, sym, refl, ap, ◌∙◌, subst, take_at}
+use Rattle.std.proofs.Common.{◌≡◌, ℕ, ◌-◌, List, [], ◌∷◌, ◌++◌, length, take, sym, refl, ap, ◌∙◌, subst, take_at}
 use Rattle.refusal.specs.Rules.{accepted◌then◌else◌}
 use Rattle.refusal.proofs.Laws.{accepted_yes}
 use Rattle.octets.specs.Octets.{zeros}
@@ -7,7 +7,6 @@ use Rattle.octets.proofs.Buffers.{length_zeros, take_pasted}
 use Rattle.slot_state.specs.State.{buffer_length, total_of, received_of}
 use Rattle.slot_state.proofs.Accepted.{payload_accepted}
 use Rattle.manifest_slot.specs.declared.Role.{Role}
-use Rattle.manifest_slot.specs.declared.Role
 use Rattle.manifest_slot.specs.Slot.{unsound, fresh, Held, held}
 use Rattle.manifest_slot.specs.Calls.{open_step, manifest_of, read_step}
 use Rattle.manifest_slot.specs.Sequences.{Call, prepare, update, activate, step, after_all, Brought, brings, brought_by, Sound}

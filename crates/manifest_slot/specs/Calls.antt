@@ -16,7 +16,6 @@ use Rattle.manifest_slot.specs.declared.Answer.{Answer}
 use Rattle.manifest_slot.specs.declared.Opening.{Opening}
 use Rattle.manifest_slot.specs.declared.Opening.TheVariants.{Opened, Refused}
 use Rattle.manifest_slot.specs.declared.Role.{Role}
-use Rattle.manifest_slot.specs.declared.Role
 use Rattle.manifest_slot.specs.Slot.{unsound, fresh, advanced, transferring, Held, held}
 
 -- ---- what the functions' answers say, with the buffers at exit

@@ -1,10 +1,9 @@
 -- What lists of slot calls lead to, from an opening: stated once, for every magic number.
-use Rattle.std.specs.Prelude.{◌≡◌, ℕ, ◌+◌, ◌<◌, ◌≤◌, Bool, false, List, [], ◌∷◌, ◌++◌, length, ◌≢◌}
+use Rattle.std.specs.Prelude.{◌≡◌, ℕ, ◌<◌, ◌≤◌, Bool, false, List, [], ◌∷◌, ◌++◌, length, ◌≢◌}
 use Rattle.refusal.specs.Rules.{accepted◌then◌else◌}
 use Rattle.refusal.specs.Steps.{Outcome, Keeps}
 use Rattle.slot_state.specs.State.{buffer_length}
 use Rattle.manifest_slot.specs.declared.Role.{Role}
-use Rattle.manifest_slot.specs.declared.Role
 use Rattle.manifest_slot.specs.Slot.{unsound, Held}
 use Rattle.manifest_slot.specs.Calls.{open_step, prepare_step, update_step, activate_step, read_step}
 

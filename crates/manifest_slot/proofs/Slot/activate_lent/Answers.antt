@@ -1,4 +1,4 @@
-use Rattle.std.proofs.Common.{◌∙◌, rules}
+use Rattle.std.proofs.Common.{◌∙◌}
 use Rattle.refusal.proofs.Steps.{decided_refused}
 use Rattle.manifest_slot.specs.Calls.{activate_lent}
 use Rattle.manifest_slot.proofs.Answers.{refused_is, activate_done}

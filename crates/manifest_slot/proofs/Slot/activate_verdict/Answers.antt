@@ -1,4 +1,4 @@
-use Rattle.std.proofs.Common.{◌∙◌, rules}
+use Rattle.std.proofs.Common.{◌∙◌}
 use Rattle.refusal.specs.Rules.{first◌then◌}
 use Rattle.manifest_slot.specs.Calls.{activate_rule}
 use Rattle.manifest_slot.proofs.Slot.activate_verdict.Goals as goal

@@ -1,4 +1,4 @@
-use Rattle.std.proofs.Common.{◌∙◌, rules}
+use Rattle.std.proofs.Common.{◌∙◌}
 use Rattle.refusal.specs.Rules.{first◌then◌}
 use Rattle.manifest_slot.proofs.Rules.{lent_chain}
 use Rattle.manifest_slot.proofs.Slot.lent_verdict.Goals as goal

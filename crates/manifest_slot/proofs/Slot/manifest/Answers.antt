@@ -1,16 +1,11 @@
-use Rattle.manifest_slot.specs.Calls.{read_step}
-use Rattle.manifest_slot.specs.Slot.{held}
-use Rattle.refusal.specs.Refusals.{number_of}
-use Rattle.std.proofs.Common.{◌≡◌, ℕ, ◌+◌, ◌-◌, ◌*◌, ◌<◌, ◌≤◌, length, ◌/◌, ◌%◌, Bool, true, false, nat_eq, nat_lt, List, [], ◌∷◌, ◌++◌, slice_index_or, slice_set, bit_and, bit_or, Fits, w8, w32, w64, Bor, MutBor}
 use Rattle.manifest_slot.proofs.Answers.{read_refused, read_active, read_pending, active_there, pending_there}
-use Rattle.std.proofs.Common.{rules}
 use Rattle.manifest_slot.proofs.Slot.manifest.Goals as goal
 
 pub slice_bounds-result-end-in-Active : goal.slice_bounds-result-end-in-Active
-slice_bounds-result-end-in-Active c = ?
+slice_bounds-result-end-in-Active c = active_there _ c.lent_verdict-verdict.ensures c.in-Accepted.is
 
 pub slice_bounds-result-end-in-Pending : goal.slice_bounds-result-end-in-Pending
-slice_bounds-result-end-in-Pending c = ?
+slice_bounds-result-end-in-Pending c = pending_there _ c.lent_verdict-verdict.ensures c.in-Accepted.is c.received-n.ensures
 
 pub returns-in-Refused : goal.returns-in-Refused
 returns-in-Refused c =

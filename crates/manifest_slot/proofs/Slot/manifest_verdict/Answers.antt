@@ -1,5 +1,4 @@
 use Rattle.manifest_slot.specs.Calls.{read_step}
-use Rattle.std.proofs.Common.{rules}
 use Rattle.manifest_slot.proofs.Slot.manifest_verdict.Goals as goal
 
 pub returns : goal.returns

@@ -1,5 +1,4 @@
 use Rattle.manifest_slot.proofs.Answers.{open_refused, open_done}
-use Rattle.std.proofs.Common.{rules}
 use Rattle.manifest_slot.proofs.Slot.open.Goals as goal
 
 pub returns-in-Refused : goal.returns-in-Refused

@@ -1,4 +1,4 @@
-use Rattle.std.proofs.Common.{◌≡◌, false, sym, ◌∙◌, rules}
+use Rattle.std.proofs.Common.{◌≡◌, false, sym, ◌∙◌}
 use Rattle.slot_state.specs.State.{incomplete}
 use Rattle.manifest_slot.specs.Calls.{bad_header, pending_rule}
 use Rattle.manifest_slot.proofs.Slot.pending_verdict.Goals as goal
@@ -18,7 +18,6 @@ unfolding pending_rule
 returns-then-stale c =
     let whole : incomplete c.args.self.transfer ≡ false = sym c.incomplete.ensures ∙ c.if-incomplete.false in
     let headed : let a = c.args in bad_header a.self a.manifest.now ≡ false = sym c.bad_header.ensures ∙ c.if-bad_header.false in
-   
     sym (rw (whole, headed, sym c.stale.ensures ∙ c.if-stale.true))
 
 pub returns : goal.returns
@@ -26,5 +25,4 @@ unfolding pending_rule
 returns c =
     let whole : incomplete c.args.self.transfer ≡ false = sym c.incomplete.ensures ∙ c.if-incomplete.false in
     let headed : let a = c.args in bad_header a.self a.manifest.now ≡ false = sym c.bad_header.ensures ∙ c.if-bad_header.false in
-   
     sym (rw (whole, headed, sym c.stale.ensures ∙ c.if-stale.false))

@@ -1,4 +1,4 @@
-use Rattle.std.proofs.Common.{◌∙◌, rules}
+use Rattle.std.proofs.Common.{◌∙◌}
 use Rattle.refusal.proofs.Steps.{first_refused, first_passed}
 use Rattle.manifest_slot.specs.Calls.{prepare_lent, prepare_number, prepare_step}
 use Rattle.manifest_slot.proofs.Answers.{refused_is}

@@ -1,4 +1,4 @@
-use Rattle.std.proofs.Common.{◌∙◌, rules}
+use Rattle.std.proofs.Common.{◌∙◌}
 use Rattle.refusal.proofs.Steps.{decided_refused, decided_accepted}
 use Rattle.manifest_slot.specs.Slot.{held}
 use Rattle.manifest_slot.specs.Calls.{prepare_lent}

@@ -1,4 +1,4 @@
-use Rattle.std.proofs.Common.{sym, ◌∙◌, rules}
+use Rattle.std.proofs.Common.{sym, ◌∙◌}
 use mathlib.Core.Bool.{or-true}
 use Rattle.manifest_slot.specs.Slot.{unsound}
 use Rattle.manifest_slot.proofs.Slot.state_verdict.Goals as goal

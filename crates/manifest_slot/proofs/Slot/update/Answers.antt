@@ -1,4 +1,4 @@
-use Rattle.std.proofs.Common.{◌∙◌, rules}
+use Rattle.std.proofs.Common.{◌∙◌}
 use Rattle.manifest_slot.proofs.Answers.{refused_is, update_refused, update_passed}
 use Rattle.manifest_slot.proofs.Slot.update.Goals as goal
 
