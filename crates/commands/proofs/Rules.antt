@@ -1,8 +1,10 @@
 -- Where the command call ends, by what it asked before.
-use Prim.Native.Nat.{ℕ}
+use Prim.Native.Nat.{ℕ, ◌<◌}
 use mathlib.Core.Path.{◌≡◌, sym, ap, ◌∙◌}
-use mathlib.Core.Bool.{Bool}
+use mathlib.Core.Bool.{Bool, or-true}
 use mathlib.Core.List.{List}
+use borrow.Author.Tests.{lt-ltb}
+use lib.ListN.{length}
 use Rattle.refusal.specs.declared.Refusal.{Refusal}
 use Rattle.refusal.specs.declared.Verdict.{Verdict}
 use Rattle.refusal.specs.declared.Verdict.TheVariants.{Refused}
@@ -14,7 +16,12 @@ use Rattle.message_header.specs.Header.{command_of, command_byte, body_of}
 use Rattle.command_bodies.specs.declared.Request.{Request}
 use Rattle.command_bodies.specs.Bodies.{request_of}
 use Rattle.requests.specs.Requests.{Served, served_step}
-use Rattle.commands.specs.Commands.{ready_number, command_step}
+use Rattle.commands.specs.Commands.{response_length, ready_number, command_step}
+
+-- a response buffer that is too short
+pub ready_short : (b : Served) → length b.response < response_length → 3 ≡ ready_number b
+unfolding ready_number
+ready_short b h = sym (rw (lt-ltb _ _ h, or-true))
 
 module _ (good : Bool) (message : List ℕ) (b : Served) where
   -- buffers or state are refused

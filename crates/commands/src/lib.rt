@@ -13,6 +13,7 @@ use refusal::{Refusal, Verdict};
 use requests::{Answer, REPLY_LEN, perform};
 
 // What every command asks of its buffers and of the slot.
+#[tactic(auto, using(crate::proofs::Rules::ready_short))]
 fn ready_verdict(slot: Slot, pending: &[u8], active: &[u8], response: &[u8]) -> Verdict
     ensures { number_of result ≡ ready_number (served slot pending.now active.now response.now 0) }
 {
