@@ -1,18 +1,13 @@
 -- The header's rules as the code asks them.
 use Prim.Native.Nat.{ℕ, ◌+◌, ◌-◌}
-use mathlib.Core.Path.{◌≡◌, sym, ap, ◌∙◌}
-use mathlib.Core.Bool.{Bool, not, ◌||◌}
-use mathlib.Core.List.{List, [], ◌∷◌}
+use mathlib.Core.Path.{◌≡◌, sym}
+use mathlib.Core.Bool.{true, ◌||◌, or-true}
+use mathlib.Core.List.{List}
 use native.Mathlib.Omega.{arith}
 use lib.Dec.{eqb, ltb}
-use borrow.Author.Tests.{lt-ltb, ltb-true, eqb-false}
-use Rattle.laws.specs.Tests.{any}
+use borrow.Author.Tests.{eq-eqb, ne_eqb, lt-ltb, ltb-true, eqb-false}
 use Rattle.laws.proofs.Tests.{or_same, both_ways}
 use Rattle.manifest_header.specs.Header.{header_length, total_length, signature_length, header_unfit}
-
--- as the code asks them, of the header's length and signature length, against the total
-abbrev asked : ℕ → ℕ → ℕ → Bool
-asked length signature total = any (not (eqb length total) ∷ eqb signature 0 ∷ ltb total (signature + header_length) ∷ [])
 
 -- a signature that isn't empty is above total less 12 where with the header it is above the total
 fits : (total signature : ℕ) → (eqb signature 0 || ltb total (signature + header_length)) ≡ (eqb signature 0 || ltb (total - header_length) signature)
@@ -22,11 +17,18 @@ fits total signature =
     (λ e. lt-ltb (total - header_length) signature (omega (arith, eqb-false signature 0 z, ltb-true total (signature + header_length) e)))
     (λ e. lt-ltb total (signature + header_length) (omega (arith, ltb-true (total - header_length) signature e))))
 
--- what the code's tests come to is what the rules say
-pub unfit_is : (total : ℕ) (m : List ℕ) {length signature : ℕ} {b : Bool} → length ≡ total_length m → signature ≡ signature_length m
-    → asked length signature total ≡ b → b ≡ header_unfit total m
+-- what the rules come to, as the code asks them: another length, a signature of no bytes, one that with the header is above the total
+
+pub unfit_length : (total : ℕ) (m : List ℕ) → (total_length m ≡ total → ⊥) → true ≡ header_unfit total m
 unfolding header_unfit
-unfit_is total m p q e =
-    sym e
-    ∙ (λ i. asked (p i) (q i) total)
-    ∙ ap (λ (b : Bool). not (eqb (total_length m) total) || b) (fits total (signature_length m))
+unfit_length total m n = sym (rw (ne_eqb (total_length m) total n))
+
+pub unfit_empty : (total : ℕ) (m : List ℕ) → signature_length m ≡ 0 → true ≡ header_unfit total m
+unfolding header_unfit
+unfit_empty total m e = sym (rw (eq-eqb (signature_length m) 0 e, or-true))
+
+pub unfit_long : (total : ℕ) (m : List ℕ) → total_length m ≡ total → (signature_length m ≡ 0 → ⊥)
+    → ltb total (signature_length m + header_length) ≡ header_unfit total m
+unfolding header_unfit
+unfit_long total m e n =
+    sym (rw (eq-eqb (total_length m) total e, sym (fits total (signature_length m)), ne_eqb (signature_length m) 0 n))
