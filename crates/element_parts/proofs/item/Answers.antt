@@ -1,8 +1,5 @@
-use mathlib.Core.Path.{ap, ◌∙◌}
 use native.Mathlib.Omega.{arith}
-use borrow.Author.Rules.{rules}
-use lib.ListN.{take}
-use Rattle.element_parts.proofs.Items.{item_starts, item_past}
+use Rattle.element_parts.proofs.Items.{item_past}
 use Rattle.element_parts.proofs.item.Goals as goal
 
 pub returns-then-item_count-i : goal.returns-then-item_count-i

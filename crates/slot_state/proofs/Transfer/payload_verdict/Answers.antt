@@ -1,7 +1,6 @@
 use mathlib.Core.Path.{sym, ◌∙◌}
 use Rattle.refusal.proofs.Laws.{when_yes, when_no}
 use Rattle.slot_state.specs.Rules.{update_rule}
-use borrow.Author.Rules.{rules}
 use Rattle.slot_state.proofs.Transfer.payload_verdict.Goals as goal
 
 pub returns-then-too_long : goal.returns-then-too_long

@@ -1,7 +1,6 @@
 use mathlib.Core.Path.{sym, ◌∙◌}
 use Rattle.refusal.proofs.Laws.{when_yes, when_no}
 use Rattle.slot_state.specs.Rules.{prepare_rule}
-use borrow.Author.Rules.{rules}
 use Rattle.slot_state.proofs.rules.total_verdict.Goals as goal
 
 pub returns-then-outside : goal.returns-then-outside

@@ -1,4 +1,3 @@
-use borrow.Author.Rules.{rules}
 use Rattle.regions.proofs.Regions.{region_judged}
 use Rattle.regions.proofs.region.Region.malformed.Goals as goal
 

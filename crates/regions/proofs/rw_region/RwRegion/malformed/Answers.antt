@@ -1,4 +1,3 @@
-use borrow.Author.Rules.{rules}
 use Rattle.regions.proofs.RwRegions.{rw_judged}
 use Rattle.regions.proofs.rw_region.RwRegion.malformed.Goals as goal
 
