@@ -2,6 +2,7 @@
 """Spells the names that this repository's specs/ and proofs/ declare as today's Rattle does: words in snake case.
 
 usage: respell.py           at the top of the repository, once, after port.py: spells the names of respell.tsv, beside this file, anew
+       respell.py --pages   spells them anew in README.md, CONTRIBUTING.md and docs/, between backquotes
        respell.py --list    prints the old and new names, as respell.tsv has them, and changes nothing
 
 A definition, lemma or record field in camel case or with hyphens gets underscores. Where a Rust name of src/ is spelled
@@ -97,6 +98,21 @@ def library_names(text):
     return found
 
 
+def pages(new):
+    found = ["README.md", "CONTRIBUTING.md"] + [os.path.join(d, n) for d, _, names in os.walk("docs") for n in names]
+    for path in sorted(found):
+        if path.endswith(".md") and os.path.basename(path) != "PORT.md":
+            with open(path, encoding="utf-8") as f:
+                text = f.read()
+            spelled = lambda m: TOKEN.sub(lambda t: new.get(t.group(), t.group()), m.group())
+            out = re.sub(r"`[^`\n]+`", spelled, text)
+            if out != text:
+                print(path)
+                with open(path, "w", encoding="utf-8") as f:
+                    f.write(out)
+    return 0
+
+
 def main(argv):
     if "--list" in argv:
         for name, to in table().items():
@@ -104,6 +120,8 @@ def main(argv):
         return 0
     with open(os.path.join(os.path.dirname(os.path.realpath(__file__)), "respell.tsv"), encoding="utf-8") as f:
         new = dict(line.rstrip("\n").split("\t") for line in f)
+    if "--pages" in argv:
+        return pages(new)
     changed = 0
     for path in files(".antt", ".rt", ".edit"):
         with open(path, encoding="utf-8") as f:
