@@ -1,14 +1,12 @@
 -- What a reading's step says of the next one.
 use Prim.Native.Nat.{ℕ, zero, suc, ◌+◌, ◌-◌, ◌≤◌, ◌<◌}
-use mathlib.Core.Path.{◌≡◌, refl, sym, ap, subst, ◌∙◌}
+use mathlib.Core.Path.{◌≡◌, refl, sym, ap, subst}
 use mathlib.Core.Bool.{Bool, true, false}
 use mathlib.Core.Option.{Option, none, some}
 use native.Mathlib.Omega.{arith}
 use lib.IntN.{ℤ, pos, negsuc}
 use Rattle.whole_io.specs.declared.Moved.{Moved}
-use Rattle.whole_io.specs.declared.Moved
 use Rattle.whole_io.specs.declared.Reading.{Reading}
-use Rattle.whole_io.specs.declared.Reading
 use Rattle.whole_io.specs.declared.Step.{Step}
 use Rattle.whole_io.specs.declared.Step.TheVariants.{Again, Over}
 use Rattle.whole_io.specs.Calls.{is_eintr, failed_by, moved_by}
@@ -41,15 +39,12 @@ at_most h (some k) l = omega arith
 at_most h none l = tt
 
 -- the step that the code made of a call, by the case that the match found
-module _ (got error : ℤ) (len done left : ℕ) {r : Step} (h : done < len) (e : r ≡ step_after (moved_by got error (len - done)) done left) where
-  step_sound : {s : Step} → r ≡ s → Sound len done left s
-  step_sound f = subst (Sound len done left) (sym e ∙ f) (sound got error len done left h)
+module _ (got error : ℤ) (len done left : ℕ) (h : done < len) where
+  pub again_nearer : (d l : ℕ) → Again d l ≡ step_after (moved_by got error (len - done)) done left → Nearer len done left d l
+  again_nearer d l e = subst (Sound len done left) (sym e) (sound got error len done left h)
 
-  pub again_nearer : {d l : ℕ} → r ≡ Again d l → Nearer len done left d l
-  again_nearer f = step_sound f
-
-  pub over_within : {reading : Reading} {limit : ℕ} → len ≤ limit → r ≡ Over reading → AtMost limit (bytes_read reading)
-  over_within {reading} k f = at_most k (bytes_read reading) (step_sound f)
+  pub over_within : (reading : Reading) (limit : ℕ) → len ≤ limit → Over reading ≡ step_after (moved_by got error (len - done)) done left → AtMost limit (bytes_read reading)
+  over_within reading limit k e = at_most k (bytes_read reading) (subst (Sound len done left) (sym e) (sound got error len done left h))
 
 -- how many bytes a reading gave, by its case
 pub counted : {limit n : ℕ} (r : Reading) → r ≡ Reading.Whole n → AtMost limit (bytes_read r) → n ≤ limit

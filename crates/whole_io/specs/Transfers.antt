@@ -4,9 +4,7 @@
 use Rattle.std.specs.Prelude.{ℕ, zero, suc, ◌+◌, ◌≤◌}
 use Rattle.std.proofs.Math.Option.{Option, none, some}
 use Rattle.whole_io.specs.declared.Moved.{Moved}
-use Rattle.whole_io.specs.declared.Moved
 use Rattle.whole_io.specs.declared.Reading.{Reading}
-use Rattle.whole_io.specs.declared.Reading
 use Rattle.whole_io.specs.declared.Step.{Step}
 use Rattle.whole_io.specs.declared.Step.TheVariants.{Again, Over}
 

@@ -1,11 +1,21 @@
-// Reads and writes on a file descriptor that are whole or have failed. A call that a signal interrupted is made again.
+// Reads and writes on a file or a stream that are whole or have failed. A call that a signal interrupted is made again.
 #![tactic(auto)]
 
-ghost use Rattle.std.specs.Prelude.{◌≡◌, true, ◌-◌, ◌≤◌, length};
+ghost use Rattle.std.specs.Prelude.{◌≡◌, true, ◌-◌, ◌≤◌, ◌<◌, ◌^◌, length, pos, negsuc, IfOk, IfErr, OnErr, IfSome};
+ghost use Rattle.std.specs.IoError.{raw_os_error};
 ghost use Rattle.whole_io.specs.Calls.{moved_by};
 ghost use Rattle.whole_io.specs.Transfers.{step_after, bytes_read, AtMost};
 
-use libc::EINTR;
+use arrayvec::ArrayString;
+use std::fmt::Write as _;
+use std::io;
+use std::io::{ErrorKind, Read, Write};
+
+// Linux's errno of a call that a signal interrupted.
+const EINTR: i32 = 4;
+
+// Linux's errno where the system says no more than that the call failed.
+const EIO: i32 = 5;
 
 // How often one reading or writing lets a signal interrupt its calls: with a limit it ends whatever the signals do.
 pub const INTERRUPTIONS: usize = 65536;
@@ -80,8 +90,26 @@ pub(crate) fn step_after(
     }
 }
 
-// Reads until the buffer is full or the file ends. Where a call failed, at whatever place of the file, so has the reading, and errno says why.
-pub fn read_whole(fd: i32, buffer: &mut [u8]) -> Reading
+// One call's answer as POSIX has it: how many bytes were moved, and 0, or -1 and errno.
+fn answer_of(call: io::Result<usize>) -> (isize, i32)
+    requires { IfOk call (λ n. n < 2 ^ 63) }
+    ensures moved { IfOk call (λ n. result.0 ≡ pos n) }
+    ensures failed { OnErr call (result.0 ≡ negsuc 0) }
+    ensures error { IfErr call (λ e. IfSome (raw_os_error e) (λ code. result.1 ≡ code)) }
+{
+    match call {
+        Ok(n) => (n as isize, 0),
+        Err(e) => match e.raw_os_error() {
+            Some(code) => (-1, code),
+            // A reader or a writer of memory may have an error that the system doesn't number.
+            None if e.kind() == ErrorKind::Interrupted => (-1, EINTR),
+            None => (-1, EIO),
+        },
+    }
+}
+
+// Reads until the buffer is full or the file ends. Where a call failed, at whatever place of the file, so has the reading, and error says why, by errno's number.
+pub fn read_whole<R: Read>(from: &mut R, buffer: &mut [u8], error: &mut i32) -> Reading
     ensures count { AtMost (length buffer.new) (bytes_read result) }
     ensures length { length buffer.new ≡ length buffer.old }
 {
@@ -89,8 +117,9 @@ pub fn read_whole(fd: i32, buffer: &mut [u8]) -> Reading
     let mut done: usize = 0;
     let mut interruptions: usize = INTERRUPTIONS;
     while done < len {
-        let got = libc::read(fd, &mut buffer[done..]);
-        let next = step_after(got, os::errno(), done, len, interruptions);
+        let (got, errno) = answer_of(from.read(&mut buffer[done..]));
+        *error = errno;
+        let next = step_after(got, errno, done, len, interruptions);
         match next {
             Step::Again(d, i) => {
                 done = d;
@@ -102,17 +131,17 @@ pub fn read_whole(fd: i32, buffer: &mut [u8]) -> Reading
     Reading::Whole(done)
 }
 
-// Writes all of the bytes and answers true, or answers false, when some of them may have been written and, where a call failed, errno says why.
-// Where there is nothing to write, nothing fails; more no contract can say of a descriptor.
-pub fn write_whole(fd: i32, bytes: &[u8]) -> bool
+// Writes all of the bytes and answers true, or answers false, when some of them may have been written and, where a call failed, error says why.
+pub fn write_whole<W: Write>(to: &mut W, bytes: &[u8], error: &mut i32) -> bool
     ensures { length bytes.now ≡ 0 → result ≡ true }
 {
     let len = bytes.len();
     let mut done: usize = 0;
     let mut interruptions: usize = INTERRUPTIONS;
     while done < len {
-        let put = libc::write(fd, &bytes[done..]);
-        let next = step_after(put, os::errno(), done, len, interruptions);
+        let (put, errno) = answer_of(to.write(&bytes[done..]));
+        *error = errno;
+        let next = step_after(put, errno, done, len, interruptions);
         match next {
             Step::Again(d, i) => {
                 done = d;
@@ -122,4 +151,26 @@ pub fn write_whole(fd: i32, bytes: &[u8]) -> bool
         }
     }
     true
+}
+
+// The longest line of the C library's words for an error, and what std puts behind it.
+const TEXT_LEN: usize = 128;
+
+// Writes a line that says what failed, as the caller names it, a colon and errno's meaning. What can't be written is left out.
+pub fn write_failure<W: Write>(to: &mut W, what: &[u8], errno: i32) {
+    let mut text = ArrayString::<TEXT_LEN>::new();
+    let _ = write!(text, "{}", io::Error::from_raw_os_error(errno));
+    let mut error: i32 = 0;
+    write_whole(to, what, &mut error);
+    write_whole(to, b": ", &mut error);
+    write_whole(to, meaning(text.as_str()).as_bytes(), &mut error);
+    write_whole(to, b"\n", &mut error);
+}
+
+// An error's text without the number that std ends it with.
+fn meaning(text: &str) -> &str {
+    match text.split_once(" (os error ") {
+        Some((words, _)) => words,
+        None => text,
+    }
 }
