@@ -1,8 +1,8 @@
--- POSIX.1-2024, open(), RETURN VALUE: "a non-negative integer representing the file descriptor. Otherwise, these functions shall return -1".
-use Rattle.std.specs.Prelude.{ℕ, ◌≡◌, ℤ, pos, negsuc}
+-- What opening a file answers: the file, or an error where there is none.
+use Rattle.std.specs.Prelude.{ℕ, ◌≡◌, Result, Ok, Err}
 use Rattle.std.proofs.Math.Option.{Option, none}
 
 -- of a file that wasn't opened there are no bytes to judge, which isn't a file of no bytes
-abbrev pub NoneUnopened : ℤ → Option ℕ → Type 0
-NoneUnopened (pos fd) bytes = Unit {0}
-NoneUnopened (negsuc n) bytes = bytes ≡ none
+abbrev pub NoneUnopened : {F E : Type 0} → Result F E → Option ℕ → Type 0
+NoneUnopened (Ok file) bytes = Unit {0}
+NoneUnopened (Err e) bytes = bytes ≡ none

@@ -90,6 +90,17 @@ pub(crate) fn step_after(
     }
 }
 
+// An error as errno has it. That of a reader or a writer of memory may be none that the system numbers.
+pub fn errno_of(error: &io::Error) -> i32
+    ensures { IfSome (raw_os_error error.now) (λ code. result ≡ code) }
+{
+    match error.raw_os_error() {
+        Some(code) => code,
+        None if error.kind() == ErrorKind::Interrupted => EINTR,
+        None => EIO,
+    }
+}
+
 // One call's answer as POSIX has it: how many bytes were moved, and 0, or -1 and errno.
 fn answer_of(call: io::Result<usize>) -> (isize, i32)
     requires { IfOk call (λ n. n < 2 ^ 63) }
@@ -99,12 +110,7 @@ fn answer_of(call: io::Result<usize>) -> (isize, i32)
 {
     match call {
         Ok(n) => (n as isize, 0),
-        Err(e) => match e.raw_os_error() {
-            Some(code) => (-1, code),
-            // A reader or a writer of memory may have an error that the system doesn't number.
-            None if e.kind() == ErrorKind::Interrupted => (-1, EINTR),
-            None => (-1, EIO),
-        },
+        Err(e) => (-1, errno_of(&e)),
     }
 }
 
