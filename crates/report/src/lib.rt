@@ -4,20 +4,47 @@
 ghost use Rattle.std.specs.Prelude.{◌≡◌, true, ◌&&◌, length};
 ghost use Rattle.report.specs.Report.{StaysFailed};
 
-use libc::STDOUT_FILENO;
 use refusal::Refusal;
+use std::fs;
+use std::fs::OpenOptions;
 
 // Whether every part so far was written whole.
 #[derive(Drop)]
 pub struct Report {
     pub ok: bool,
+    rt: HostRuntime,
+}
+
+// Standard output by its name.
+const OUTPUT: &str = "/dev/stdout";
+
+// Linux's errno of syncing what can't be synced.
+const EINVAL: i32 = 22;
+
+// Has the system store what was written, where standard output is a file, and answers 0, or errno where it can't. Of a pipe, a terminal or a file that
+// mustn't be opened again there is nothing more to learn.
+fn store_output(rt: &HostRuntime) -> i32 {
+    match fs::metadata(rt, OUTPUT) {
+        Ok(output) if output.is_file() => {}
+        _ => return 0,
+    }
+    let Ok(file) = OpenOptions::new().write(true).open(rt, OUTPUT) else {
+        return 0;
+    };
+    match file.sync_all() {
+        Ok(()) => 0,
+        Err(e) => match whole_io::errno_of(&e) {
+            EINVAL => 0,
+            error => error,
+        },
+    }
 }
 
 impl Report {
-    pub fn new() -> Self
+    pub fn new(rt: HostRuntime) -> Self
         ensures { result.ok ≡ true }
     {
-        Report { ok: true }
+        Report { ok: true, rt }
     }
 
     pub fn text(self, bytes: &[u8]) -> Self
@@ -27,28 +54,34 @@ impl Report {
         if !self.ok {
             return self;
         }
-        self.outcome(whole_io::write_whole(STDOUT_FILENO, bytes))
+        let mut error: i32 = 0;
+        let done = whole_io::write_whole(&mut self.rt.stdout(), bytes, &mut error);
+        self.outcome(done, error)
     }
 
-    // The report's end. Standard output is closed: some file systems tell only then that a write has failed.
+    // The report's end. What was written is stored: some file systems tell only then that a write has failed.
     pub fn end(self) -> Self
         ensures { StaysFailed self.ok result.ok }
     {
         if !self.ok {
             return self;
         }
-        self.outcome(libc::close(STDOUT_FILENO) == 0)
+        let error = store_output(&self.rt);
+        self.outcome(error == 0, error)
     }
 
-    // What a call on standard output leaves of the report.
-    fn outcome(self, done: bool) -> Self
+    // What a call on standard output leaves of the report, which failed with this errno where it wasn't done.
+    fn outcome(self, done: bool, error: i32) -> Self
         ensures { result.ok ≡ (done && self.ok) }
     {
         if done {
             return self;
         }
-        os::fail(b"standard output");
-        Report { ok: false }
+        whole_io::write_failure(&mut self.rt.stderr(), b"standard output", error);
+        Report {
+            ok: false,
+            rt: self.rt,
+        }
     }
 
     pub fn decimal(self, n: u64) -> Self
@@ -73,10 +106,8 @@ impl Report {
         ensures { StaysFailed self.ok result.ok }
     {
         let mut report = self;
-        let mut i: usize = 0;
-        while i < bytes.len() {
-            report = report.hex(bytes[i] as u64, 2);
-            i += 1;
+        for byte in bytes {
+            report = report.hex(u64::from(*byte), 2);
         }
         report
     }
