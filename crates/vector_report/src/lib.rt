@@ -18,14 +18,14 @@ pub struct Tally {
 }
 
 impl Tally {
-    pub fn new() -> Self
+    pub fn new(rt: HostRuntime) -> Self
         ensures counts { (result.run ≡ 0) × (result.differ ≡ 0) }
         ensures report { result.report.ok ≡ true }
     {
         Tally {
             run: 0,
             differ: 0,
-            report: Report::new(),
+            report: Report::new(rt),
         }
     }
 
@@ -34,14 +34,14 @@ impl Tally {
         ensures counts { (result.run ≡ self.run) × (result.differ ≡ self.differ) }
         ensures failed { StaysFailed self.report.ok result.report.ok }
     {
-        self.reporting(self.report.text(text))
+        Self::reporting(self.run, self.differ, self.report.text(text))
     }
 
     pub fn labelled(self, label: &[u8], n: u64) -> Self
         ensures counts { (result.run ≡ self.run) × (result.differ ≡ self.differ) }
         ensures failed { StaysFailed self.report.ok result.report.ok }
     {
-        self.reporting(self.report.labelled(label, n))
+        Self::reporting(self.run, self.differ, self.report.labelled(label, n))
     }
 
     // Ends a vector's line: whether the computed bytes are the expected ones, or which others they are.
@@ -72,20 +72,20 @@ impl Tally {
         ensures counts { (result.run ≡ self.run) × (result.differ ≡ self.differ) }
         ensures failed { StaysFailed self.report.ok result.report.ok }
     {
-        let counted = self
-            .labelled(b"", self.run)
-            .labelled(b" vectors, ", self.differ);
-        counted.reporting(counted.report.text(b" differ\n").end())
+        let run = self.run;
+        let differ = self.differ;
+        let counted = self.labelled(b"", run).labelled(b" vectors, ", differ);
+        Self::reporting(run, differ, counted.report.text(b" differ\n").end())
     }
 
-    // The same counts with another report.
-    fn reporting(self, report: Report) -> Self
-        ensures counts { (result.run ≡ self.run) × (result.differ ≡ self.differ) }
+    // These counts with a report.
+    fn reporting(run: u64, differ: u64, report: Report) -> Self
+        ensures counts { (result.run ≡ run) × (result.differ ≡ differ) }
         ensures report { result.report ≡ report }
     {
         Tally {
-            run: self.run,
-            differ: self.differ,
+            run,
+            differ,
             report,
         }
     }
