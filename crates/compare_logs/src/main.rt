@@ -5,7 +5,6 @@
 mod lines;
 mod words;
 
-use libc::STDERR_FILENO;
 use lines::write_lines;
 use log_comparison::Judged;
 use report::Report;
@@ -16,17 +15,17 @@ use words::write_words;
 const READ_LEN: usize = log_text::BUFFER_LEN + 1;
 
 // What the comparison of the texts in the files that arguments 1 and 2 name says.
-fn compare(report: Report, left: &[u8], right: &[u8]) -> Report {
+fn compare(rt: &HostRuntime, report: Report, left: &[u8], right: &[u8]) -> Report {
     let comparison = log_comparison::compare(left, right);
     let judged = comparison.judged;
     let pmrs = comparison.pmrs;
     match judged {
         Judged::LeftRefused(why) => {
-            legacy_log::explain(1, left);
+            legacy_log::explain(rt, 1, left);
             report.text(b"refused left ").refusal(why)
         }
         Judged::RightRefused(why) => {
-            legacy_log::explain(2, right);
+            legacy_log::explain(rt, 2, right);
             report.text(b"refused right ").refusal(why)
         }
         Judged::Accepted => write_words(write_lines(report, pmrs), pmrs),
@@ -34,9 +33,9 @@ fn compare(report: Report, left: &[u8], right: &[u8]) -> Report {
 }
 
 // Both files are read, so that each that can't be read whole has its line on standard error; what was read of it is never judged.
-fn compare_named(report: Report, left: &mut [u8], right: &mut [u8]) -> Report {
-    let read_left = file_arguments::read_argument(1, b"compare_logs: argument", left);
-    let read_right = file_arguments::read_argument(2, b"compare_logs: argument", right);
+fn compare_named(rt: &HostRuntime, report: Report, left: &mut [u8], right: &mut [u8]) -> Report {
+    let read_left = file_arguments::read_argument(rt, 1, b"compare_logs: argument", left);
+    let read_right = file_arguments::read_argument(rt, 2, b"compare_logs: argument", right);
     match read_left {
         Reading::Failed => match read_right {
             Reading::Failed => report.text(b"unread left\nunread right\n"),
@@ -44,20 +43,22 @@ fn compare_named(report: Report, left: &mut [u8], right: &mut [u8]) -> Report {
         },
         Reading::Whole(n) => match read_right {
             Reading::Failed => report.text(b"unread right\n"),
-            Reading::Whole(m) => compare(report, &left[..n], &right[..m]),
+            Reading::Whole(m) => compare(rt, report, &left[..n], &right[..m]),
         },
     }
 }
 
-fn main() {
-    if os::arg_count() != 3 {
+fn main(rt: HostRuntime) {
+    if file_arguments::argument_count(&rt) != 3 {
+        let mut error: i32 = 0;
         whole_io::write_whole(
-            STDERR_FILENO,
+            &mut rt.stderr(),
             b"usage: compare_logs LEFT RIGHT\ncompares two recorded measurement logs and writes, PMR by PMR, where their digests first differ\n",
+            &mut error,
         );
         return;
     }
     let mut left = [0u8; READ_LEN];
     let mut right = [0u8; READ_LEN];
-    compare_named(Report::new(), &mut left, &mut right).end();
+    compare_named(&rt, Report::new(rt), &mut left, &mut right).end();
 }

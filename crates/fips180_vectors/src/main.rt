@@ -13,9 +13,9 @@ mod vector;
 use vector_report::Tally;
 use vector_report::counting::counting_bytes;
 
-fn main() {
+fn main(rt: HostRuntime) {
     let pattern = counting_bytes();
-    let t1 = published::run(Tally::new());
+    let t1 = published::run(Tally::new(rt));
     let t2 = blocks_of_64::run(t1, &pattern);
     blocks_of_128::run(t2, &pattern).summary();
 }

@@ -11,9 +11,9 @@ mod rfc4231;
 use vector_report::Tally;
 use vector_report::counting::counting_bytes;
 
-fn main() {
+fn main(rt: HostRuntime) {
     let m = counting_bytes();
-    let t1 = rfc4231::run(Tally::new());
+    let t1 = rfc4231::run(Tally::new(rt));
     let t2 = key_lengths::run(t1, &m);
     pairing_keys::run(t2, &m).summary();
 }

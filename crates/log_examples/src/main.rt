@@ -7,7 +7,7 @@ mod records;
 
 use report::Report;
 
-fn main() {
-    let r1 = records::run(Report::new());
+fn main(rt: HostRuntime) {
+    let r1 = records::run(Report::new(rt));
     kept_registers::run(r1).end();
 }

@@ -7,7 +7,7 @@ mod slot_examples;
 
 use report::Report;
 
-fn main() {
-    let r1 = elements_examples::run(Report::new());
+fn main(rt: HostRuntime) {
+    let r1 = elements_examples::run(Report::new(rt));
     slot_examples::run(r1).end();
 }
