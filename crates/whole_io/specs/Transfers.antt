@@ -1,7 +1,9 @@
 -- Readings made of several calls: how one goes on after each call, and what it answers.
--- Which bytes a file gave, and that the calls were made and what they answered, no contract can say here: the contract of libc's read says nothing of the
--- bytes that it puts, nor of a file. `step_after` fixes what a call's answer leads to; that a reading ends as its last step says is tested.
-use Rattle.std.specs.Prelude.{ℕ, zero, suc, ◌+◌, ◌≤◌}
+-- Which bytes a file of the system gave or took no contract can say: std's read and write claim that of readers and writers over memory alone, whose bytes
+-- are known. `step_after` fixes what a call's answer leads to.
+use Rattle.std.specs.Prelude.{ℕ, zero, suc, ◌+◌, ◌≤◌, ◌<◌, List, take}
+use Rattle.std.specs.Io.KnownBytes.{Consumes, IsAtEnd}
+use Rattle.std.specs.declared.option.Option as known
 use Rattle.std.proofs.Math.Option.{Option, none, some}
 use Rattle.whole_io.specs.declared.Moved.{Moved}
 use Rattle.whole_io.specs.declared.Reading.{Reading}
@@ -25,3 +27,13 @@ bytes_read Reading.Failed = none
 abbrev pub AtMost : ℕ → Option ℕ → Type 0
 AtMost limit (some n) = n ≤ limit
 AtMost limit none = Unit {0}
+
+-- what a reader had left before and has left after, where that is known: the bytes that now stand at the front of the buffer are what it gave in between
+abbrev pub Gave : known.Option (List ℕ) → known.Option (List ℕ) → List ℕ → Option ℕ → Type 0
+Gave before after buffer (some n) = Consumes before after (take n buffer)
+Gave before after buffer none = Unit {0}
+
+-- a reading that didn't fill the buffer, of so many bytes, came to the end of what the reader had left
+abbrev pub EndedWithin : known.Option (List ℕ) → ℕ → Option ℕ → Type 0
+EndedWithin after room (some n) = n < room → IsAtEnd after
+EndedWithin after room none = Unit {0}

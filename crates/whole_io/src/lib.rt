@@ -3,8 +3,9 @@
 
 ghost use Rattle.std.specs.Prelude.{◌≡◌, true, ◌-◌, ◌≤◌, ◌<◌, ◌^◌, length, pos, negsuc, IfOk, IfErr, OnErr, IfSome};
 ghost use Rattle.std.specs.IoError.{raw_os_error};
+ghost use Rattle.std.specs.Io.KnownBytes.{Appends};
 ghost use Rattle.whole_io.specs.Calls.{moved_by};
-ghost use Rattle.whole_io.specs.Transfers.{step_after, bytes_read, AtMost};
+ghost use Rattle.whole_io.specs.Transfers.{step_after, bytes_read, AtMost, Gave, EndedWithin};
 
 use arrayvec::ArrayString;
 use std::fmt::Write as _;
@@ -118,6 +119,8 @@ fn answer_of(call: io::Result<usize>) -> (isize, i32)
 pub fn read_whole<R: Read>(from: &mut R, buffer: &mut [u8], error: &mut i32) -> Reading
     ensures count { AtMost (length buffer.new) (bytes_read result) }
     ensures length { length buffer.new ≡ length buffer.old }
+    ensures bytes { Gave (R.remaining from.old) (R.remaining from.new) buffer.new (bytes_read result) }
+    ensures end { EndedWithin (R.remaining from.new) (length buffer.new) (bytes_read result) }
 {
     let len = buffer.len();
     let mut done: usize = 0;
@@ -138,8 +141,10 @@ pub fn read_whole<R: Read>(from: &mut R, buffer: &mut [u8], error: &mut i32) -> 
 }
 
 // Writes all of the bytes and answers true, or answers false, when some of them may have been written and, where a call failed, error says why.
+// Where there is nothing to write, nothing fails.
 pub fn write_whole<W: Write>(to: &mut W, bytes: &[u8], error: &mut i32) -> bool
-    ensures { length bytes.now ≡ 0 → result ≡ true }
+    ensures nothing { length bytes.now ≡ 0 → result ≡ true }
+    ensures bytes { result ≡ true → Appends (W.contents to.old) (W.contents to.new) bytes.now }
 {
     let len = bytes.len();
     let mut done: usize = 0;
