@@ -1,0 +1,16 @@
+use Prim.Native.Nat.{◌-◌}
+use mathlib.Core.Path.{◌≡◌, refl}
+use mathlib.Core.List.{List, []}
+use native.Mathlib.Omega.{arith}
+use borrow.Author.Rules.{rules}
+use lib.ListN.{length, replicate}
+use Rattle.octets.proofs.Runs.{Put, put_none, put_more, put_all}
+use Rattle.log_comparison.specs.declared.PmrComparison.{PmrComparison}
+use Rattle.c_encoding.specs.Comparisons.{pmr_comparison_length, pmr_comparison_bytes}
+use Rattle.c_encoding.proofs.comparison_bytes.comparison_bytes.Given as goal
+
+abbrev pub invariant-loop-p : goal.invariant-loop-p
+invariant-loop-p l = Put pmr_comparison_bytes pmr_comparison_length [] l.pmrs l.bytes l.p
+
+abbrev pub decreases-loop-p : goal.decreases-loop-p
+decreases-loop-p l = 5 - l.p
