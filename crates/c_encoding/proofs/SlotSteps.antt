@@ -11,7 +11,6 @@ use Rattle.refusal.proofs.Laws.{refusal_positive}
 use Rattle.refusal.proofs.Steps.{decided_yes, decided_no, keeps_decided}
 use Rattle.manifest_slot.specs.declared.Slot.{Slot}
 use Rattle.manifest_slot.specs.declared.Opening.{Opening}
-use Rattle.manifest_slot.specs.declared.Opening
 use Rattle.manifest_slot.specs.Calls.{opened, open_step}
 use Rattle.manifest_slot.specs.Slot.{Held, held}
 use Rattle.requests.specs.Requests.{Served, served}

@@ -1,10 +1,9 @@
-use Prim.Native.Nat.{◌-◌}
 use mathlib.Core.Path.{◌≡◌, refl}
 use mathlib.Core.List.{List, []}
 use native.Mathlib.Omega.{arith}
 use borrow.Author.Rules.{rules}
 use lib.ListN.{length, replicate}
-use Rattle.octets.proofs.Runs.{Put, put_none, put_more, put_all}
+use Rattle.octets.proofs.Runs.{put_none, put_more}
 use Rattle.log_comparison.specs.declared.PmrComparison.{PmrComparison}
 use Rattle.c_encoding.specs.Comparisons.{pmr_comparison_length, pmr_comparison_bytes}
 use Rattle.c_encoding.proofs.comparison_bytes.comparison_bytes.Goals as goal
