@@ -24,10 +24,8 @@ fn write_line(report: Report, pmr: Pmr, found: PmrComparison) -> Report {
 
 pub(crate) fn write_lines(report: Report, pmrs: [PmrComparison; Pmr::COUNT]) -> Report {
     let mut out = report.text(b"compared\n");
-    let mut i: usize = 0;
-    while i < Pmr::COUNT {
+    for i in 0..Pmr::COUNT {
         out = write_line(out, Pmr(i as u8), pmrs[i]);
-        i += 1;
     }
     out
 }

@@ -92,14 +92,10 @@ fn write_pmr(report: Report, pmr: Pmr, found: PmrComparison) -> Report {
 // How many PMRs differ.
 fn differing(pmrs: [PmrComparison; Pmr::COUNT]) -> usize {
     let mut n: usize = 0;
-    let mut i: usize = 0;
-    while i < Pmr::COUNT {
-        let found = pmrs[i];
-        let digests = found.digests;
-        if let Agreement::DifferAt(_) = digests {
+    for found in &pmrs {
+        if let Agreement::DifferAt(_) = found.digests {
             n += 1;
         }
-        i += 1;
     }
     n
 }
@@ -114,10 +110,8 @@ fn write_summary(report: Report, n: usize) -> Report {
 
 pub(crate) fn write_words(report: Report, pmrs: [PmrComparison; Pmr::COUNT]) -> Report {
     let mut out = report;
-    let mut i: usize = 0;
-    while i < Pmr::COUNT {
+    for i in 0..Pmr::COUNT {
         out = write_pmr(out, Pmr(i as u8), pmrs[i]);
-        i += 1;
     }
     write_summary(out, differing(pmrs))
 }

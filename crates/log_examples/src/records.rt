@@ -52,14 +52,12 @@ fn first_record(report: Report, log: Log, buffer: &mut [u8]) -> Report {
 fn last_of(n: usize, log: Log, buffer: &mut [u8]) -> u8 {
     let mut at = log;
     let mut last: u8 = 255;
-    let mut i: usize = 0;
-    while i < n {
+    for _ in 0..n {
         let recorded = at.record(Pmr(1), 7, [0x5au8; 32], buffer);
         let verdict = recorded.verdict;
         last = verdict.number();
         let next = recorded.log;
         at = next;
-        i += 1;
     }
     last
 }
