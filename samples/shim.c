@@ -1,4 +1,4 @@
-/* Preloaded into a program by samples/check: read, write and close as a bad disk, a signal, a slow line or a full disk would have them.
+/* Preloaded into a program by samples/check: read, write and fsync as a bad disk, a signal, a slow line or a full disk would have them.
  *
  * The reads on descriptors above 2 are counted, the writes on descriptor 1, and those on descriptor 2, each from 1 on. Variables of the environment choose what
  * happens to them; CALLS is a list of numbers with commas between, or "all":
@@ -8,7 +8,7 @@
  *   READ_MOST=N             no read gives more than N bytes
  *   WRITE_FAILS=CALLS, WRITE_INTERRUPTED=CALLS, WRITE_MOST=N   the same of writes, which fail with ENOSPC
  *   ERROR_FAILS=CALLS, ERROR_INTERRUPTED=CALLS, ERROR_MOST=N   and of the writes on descriptor 2
- *   CLOSE_FAILS=1           closing descriptor 1 fails with EDQUOT
+ *   SYNC_FAILS=1            storing what was written fails with EDQUOT
  */
 #define _GNU_SOURCE
 #include <errno.h>
@@ -80,12 +80,11 @@ ssize_t write(int fd, const void *buffer, size_t count)
     return syscall(SYS_write, fd, buffer, limited(fd == 1 ? "WRITE_MOST" : "ERROR_MOST", count));
 }
 
-int close(int fd)
+int fsync(int fd)
 {
-    int status = (int)syscall(SYS_close, fd);
-    if (fd == 1 && getenv("CLOSE_FAILS") != NULL) {
+    if (getenv("SYNC_FAILS") != NULL) {
         errno = EDQUOT;
         return -1;
     }
-    return status;
+    return (int)syscall(SYS_fsync, fd);
 }
