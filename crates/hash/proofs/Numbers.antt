@@ -12,6 +12,7 @@ use Rattle.refusal.specs.declared.Verdict.TheVariants.{Accepted}
 use Rattle.refusal.specs.Refusals.{number_of}
 use Rattle.refusal.specs.Rules.{◌when◌else◌}
 use Rattle.refusal.proofs.Laws.{when_no, when_accepted, accepted_yes, accepted_no, says_yes}
+use Rattle.refusal.proofs.Steps.{decided_refused, decided_accepted}
 use Rattle.laws.proofs.Tests.{and_right, equal_no, no_equal}
 use Rattle.octets.specs.Octets.{same_bytes, padded, pasted}
 use Rattle.octets.proofs.Buffers.{pasted_whole}
@@ -73,8 +74,14 @@ module _ (t : ℕ) (m b : List ℕ) where
     cut : take (length b) r ≡ hash_of t m
     cut = hash_cut t m (length b) known.fits e
 
+    pub hash_length_cut : length b ≡ length (take (length b) r)
+    hash_length_cut = known.fits ∙ sym (ap length cut ∙ hash_long t m)
+
     pub hash_filled : pasted b 0 (take (length b) r) ≡ hash_of t m
-    hash_filled = pasted_whole b _ (ap length cut ∙ hash_long t m ∙ sym known.fits) ∙ cut
+    hash_filled = pasted_whole b _ (sym hash_length_cut) ∙ cut
 
     pub hash_compared : same_bytes (take (length b) r) b ≡ hash_matches t m b
     hash_compared = ap (λ (h : List ℕ). same_bytes h b) cut ∙ matches_accepted known.none
+
+-- what the calls that take a message cite
+pub ruleset hash_calls = (hash_accepted, hash_length_cut, hash_filled, hash_compared, decided_refused, decided_accepted)

@@ -30,3 +30,5 @@ padded_sha512 t m k f g e =
     let a = number_accepts _ _ _ k in
     let z : t ≡ 2 = omega (arith, a.known) in
     e ∙ sym (padded_whole 64 _ (sha512_length m)) ∙ ap (λ (x : ℕ). padded 64 (hash_of x m)) (sym z)
+
+pub ruleset padded_hashes = (padded_sha256, padded_sha384, padded_sha512)

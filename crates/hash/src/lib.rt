@@ -42,7 +42,7 @@ fn hash_verdict(hash_type: u8, message_len: usize, hash_len: usize) -> Verdict
 }
 
 // The hash, and zeros behind it.
-#[tactic(auto, using(crate::proofs::Padded::padded_sha256, crate::proofs::Padded::padded_sha384, crate::proofs::Padded::padded_sha512))]
+#[tactic(auto, using(crate::proofs::Padded::padded_hashes))]
 fn padded_hash(hash_type: u8, message: &[u8]) -> [u8; 64]
     requires { hash_number hash_type (length message.now) (hash_length hash_type) ≡ 0 }
     ensures { result ≡ padded 64 (hash_of hash_type message.now) }
@@ -65,6 +65,7 @@ fn padded_hash(hash_type: u8, message: &[u8]) -> [u8; 64]
 }
 
 // The hash of this type of the message fills `hash`.
+#[tactic(auto, using(crate::proofs::Numbers::hash_calls), unfolding(crate::specs::Calls::hash_step))]
 pub fn hash_into(hash_type: u8, message: &[u8], hash: &mut [u8]) -> Verdict
     ensures { outcome (number_of result) hash.new ≡ hash_step hash_type message.now hash.old }
 {
@@ -79,6 +80,7 @@ pub fn hash_into(hash_type: u8, message: &[u8], hash: &mut [u8]) -> Verdict
 }
 
 // Whether the message has this hash. It is compared to its end, so that the time doesn't tell where it differs.
+#[tactic(auto, using(crate::proofs::Numbers::hash_calls))]
 pub fn hash_matches(hash_type: u8, message: &[u8], hash: &[u8]) -> bool
     ensures { result ≡ hash_matches hash_type message.now hash.now }
 {
