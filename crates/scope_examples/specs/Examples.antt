@@ -1,7 +1,6 @@
 -- Document 01, "Examples at the edges": those that are marked P, "proved once of the definitions, as one collected statement over a table of them".
 use Rattle.std.specs.Prelude.{ℕ, ◌≡◌, Bool, List, [], ◌∷◌, length}
 use Rattle.laws.specs.Tests.{bit_of}
-use Rattle.laws.specs.Lists.{All}
 use Rattle.refusal.specs.Steps.{Reply, reply}
 use Rattle.message_header.specs.Header.{command_of}
 use Rattle.regions.specs.declared.rw_region.Operation.{Operation}
