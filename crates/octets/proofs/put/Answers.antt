@@ -1,11 +1,10 @@
-use mathlib.Core.Path.{sym, ◌≡◌, refl, ap, ◌∙◌}
-use lib.ListN.{get_or, length, take, drop, set, length-set}
-use Rattle.octets.proofs.Buffers.{pasted_fits, pasted_not}
-use Prim.Native.Nat.{ℕ, ◌≤◌, ◌<◌, ◌-◌, ◌+◌}
-use mathlib.Core.List.{List, ◌++◌}
+use mathlib.Core.Path.{sym, ap, ◌∙◌}
+use lib.ListN.{get_or, length, set, length-set}
+use Prim.Native.Nat.{ℕ, ◌<◌, ◌+◌}
+use mathlib.Core.List.{List}
 use native.Mathlib.Omega.{arith}
 use native.Mathlib.Numerals.{add-one}
-use lib.Seq.{paste, paste-zero, paste-suc, take-length}
+use lib.Seq.{paste, paste-suc}
 use Rattle.octets.proofs.put.Goals as goal
 
 pub loop-i-preserved : goal.loop-i-preserved

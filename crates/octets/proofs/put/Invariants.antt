@@ -1,11 +1,7 @@
-use mathlib.Core.Path.{sym, ◌≡◌, refl, ap, ◌∙◌}
-use lib.ListN.{get_or, length, take, drop, set, length-set}
-use Rattle.octets.proofs.Buffers.{pasted_fits, pasted_not}
-use Prim.Native.Nat.{ℕ, ◌≤◌, ◌<◌, ◌-◌, ◌+◌}
-use mathlib.Core.List.{List, ◌++◌}
-use native.Mathlib.Omega.{arith}
-use native.Mathlib.Numerals.{add-one}
-use lib.Seq.{paste, paste-zero, paste-suc, take-length}
+use mathlib.Core.Path.{◌≡◌}
+use lib.ListN.{length}
+use Prim.Native.Nat.{◌≤◌, ◌-◌}
+use lib.Seq.{paste}
 use Rattle.octets.proofs.put.Given as goal
 
 abbrev pub invariant-loop-i : goal.invariant-loop-i

@@ -1,12 +1,6 @@
-use Prim.Native.Nat.{◌-◌, ◌≤◌}
-use mathlib.Core.Path.{◌≡◌, sym, ◌∙◌}
-use mathlib.Core.Bool.{◌&&◌}
+use mathlib.Core.Path.{sym, ◌∙◌}
 use native.Mathlib.Omega.{arith}
-use borrow.Author.Rules.{rules}
-use lib.Dec.{eqb}
-use lib.ListN.{length, drop}
-use Rattle.octets.specs.Octets.{same_bytes}
-use Rattle.octets.proofs.Buffers.{same_not, same_more, same_end}
+use Rattle.octets.proofs.Buffers.{same_not, same_more}
 use Rattle.octets.proofs.same.Goals as goal
 
 pub returns-then-a-b : goal.returns-then-a-b

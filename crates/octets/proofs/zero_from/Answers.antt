@@ -1,10 +1,9 @@
-use Prim.Native.Nat.{ℕ, ◌+◌, ◌-◌, ◌≤◌, ◌<◌}
-use mathlib.Core.Path.{◌≡◌, refl, sym, ap, ◌∙◌}
+use Prim.Native.Nat.{ℕ}
+use mathlib.Core.Path.{refl, ap, ◌∙◌}
 use mathlib.Core.List.{List}
 use native.Mathlib.Omega.{arith}
-use borrow.Author.Rules.{rules}
-use lib.ListN.{length, set, length-set}
-use Rattle.octets.proofs.Buffers.{zeroed_to, zeroed_none, zeroed_more, zeroed_all, zeroed_past}
+use lib.ListN.{set, length-set}
+use Rattle.octets.proofs.Buffers.{zeroed_none, zeroed_more, zeroed_past}
 use Rattle.octets.proofs.zero_from.Goals as goal
 
 pub returns-then-dst-at : goal.returns-then-dst-at
