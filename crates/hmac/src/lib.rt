@@ -23,6 +23,7 @@ pub struct Mac {
 }
 
 // K0: a key longer than a block is hashed; zeros fill the block.
+#[tactic(auto, using(crate::proofs::Parts::key_hashed, crate::proofs::Parts::key_alone))]
 fn key_block(key: &[u8]) -> [u8; 64]
     requires { length key.now < 2 ^ 61 }
     ensures { result ≡ K₀ 64 sha256 key.now }
@@ -62,6 +63,7 @@ fn refused() -> Mac
 }
 
 // Refuses a key that SHA-256 has no digest of, and a text that it has none of behind a block.
+#[tactic(auto, unfolding(crate::specs::HmacSha256::hmac_number, crate::specs::HmacSha256::hmac_mac, fips180::specs::Family::block_bytes, fips180::specs::Sha256::family32))]
 pub fn hmac_sha256(key: &[u8], text: &[u8]) -> Mac
     ensures verdict { number_of result.verdict ≡ hmac_number key.now text.now }
     ensures mac { result.mac ≡ hmac_mac key.now text.now }
