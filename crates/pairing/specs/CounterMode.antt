@@ -7,13 +7,13 @@ use Rattle.fips180.specs.Padding.{big_endian}
 unfoldable pub input_data : List ℕ → List ℕ → ℕ → ℕ → List ℕ
 input_data label context L i = big_endian 4 i ++ label ++ (0 ∷ []) ++ context ++ big_endian 4 L
 
-module _ (prf : List ℕ → List ℕ → List ℕ) (prfBits : ℕ) where
+module _ (prf : List ℕ → List ℕ → List ℕ) (prf_bits : ℕ) where
   -- result(n) = K(1) || … || K(n), where K(i) is the function of the key and the input data of iteration i
   unfoldable pub iterated : List ℕ → List ℕ → List ℕ → ℕ → ℕ → List ℕ
   iterated key label context L zero = []
   iterated key label context L (suc n) = iterated key label context L n ++ prf key (input_data label context L (suc n))
 
-  -- the leftmost L bits, whole bytes, of result(⌈L / h⌉), where h, here prfBits, is the length of the function's output. The standard has an error for more
+  -- the leftmost L bits, whole bytes, of result(⌈L / h⌉), where h, here prf_bits, is the length of the function's output. The standard has an error for more
   -- iterations than the counter has numbers; a pairing key takes one
   unfoldable pub counter_mode : List ℕ → List ℕ → List ℕ → ℕ → List ℕ
-  counter_mode key label context L = take (L / 8) (iterated key label context L ((L + prfBits - 1) / prfBits))
+  counter_mode key label context L = take (L / 8) (iterated key label context L ((L + prf_bits - 1) / prf_bits))
