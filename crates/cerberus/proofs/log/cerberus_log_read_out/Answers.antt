@@ -1,0 +1,47 @@
+use Prim.Native.Nat.{ℕ, ◌*◌}
+use mathlib.Core.Path.{◌≡◌, ap, ◌∙◌}
+use mathlib.Core.List.{List}
+use native.Mathlib.Omega.{arith}
+use Rattle.refusal.specs.Refusals.{number_of}
+use Rattle.refusal.proofs.Laws.{says_yes}
+use Rattle.log_history.specs.History.{entry_length}
+use Rattle.attestation_log.specs.State.{State}
+use Rattle.attestation_log.specs.Calls.{read_out_step, read_out_verdict_step}
+use Rattle.c_encoding.specs.Logs.{log_of}
+use Rattle.cerberus.proofs.ReadOut.{read_out_number, read_out_few, read_out_length}
+use Rattle.refusal.proofs.Steps.{told_refused, told_accepted}
+use borrow.Author.Rules.{rules}
+use Rattle.cerberus.proofs.log.cerberus_log_read_out.Goals as goal
+
+pub overflow_mul-text_len : goal.overflow_mul-text_len
+overflow_mul-text_len c =
+    let state : State = log_of c.args.log.now in
+    let buffer : List ℕ = c.args.buffer.now in
+    let numbered : number_of c.read_out_verdict-verdict.result ≡ (read_out_step state buffer).number = c.read_out_verdict-verdict.ensures
+    ∙ ap (λ (s : State). (read_out_verdict_step s buffer).number) c.log_of-state.ensures
+    ∙ read_out_number state buffer in
+    let accepted : (read_out_step state buffer).number ≡ 0 = says_yes numbered c.in-Accepted.is in
+   
+    omega (arith, read_out_few state buffer accepted, ap (λ (s : State). s.count) c.log_of-state.ensures)
+
+pub returns-in-Refused : goal.returns-in-Refused
+returns-in-Refused c =
+    let state : State = log_of c.args.log.now in
+    let buffer : List ℕ = c.args.buffer.now in
+    let numbered : number_of c.read_out_verdict-verdict.result ≡ (read_out_step state buffer).number = c.read_out_verdict-verdict.ensures
+    ∙ ap (λ (s : State). (read_out_verdict_step s buffer).number) c.log_of-state.ensures
+    ∙ read_out_number state buffer in
+   
+    told_refused _ _ numbered c.in-Refused.is c.number.ensures
+
+pub returns-in-Accepted : goal.returns-in-Accepted
+returns-in-Accepted c =
+    let state : State = log_of c.args.log.now in
+    let buffer : List ℕ = c.args.buffer.now in
+    let numbered : number_of c.read_out_verdict-verdict.result ≡ (read_out_step state buffer).number = c.read_out_verdict-verdict.ensures
+    ∙ ap (λ (s : State). (read_out_verdict_step s buffer).number) c.log_of-state.ensures
+    ∙ read_out_number state buffer in
+    let accepted : (read_out_step state buffer).number ≡ 0 = says_yes numbered c.in-Accepted.is in
+   
+    told_accepted _ _ numbered c.in-Accepted.is
+    (ap (λ (s : State). entry_length * s.count) c.log_of-state.ensures ∙ read_out_length state buffer accepted)
