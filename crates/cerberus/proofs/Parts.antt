@@ -14,7 +14,6 @@ use Rattle.attestation_log.specs.State.{State}
 use Rattle.attestation_log.specs.Calls.{read_out_step}
 use Rattle.attestation_log.proofs.Answers.{read_bytes}
 use Rattle.manifest_slot.specs.declared.Role.{Role}
-use Rattle.manifest_slot.specs.declared.Role
 use Rattle.manifest_slot.specs.Slot.{Held}
 use Rattle.slot_state.specs.State.{received_of}
 use Rattle.manifest_slot.specs.Calls.{lent_number, manifest_of, read_step}

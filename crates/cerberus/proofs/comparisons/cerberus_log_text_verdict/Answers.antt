@@ -1,6 +1,5 @@
 use mathlib.Core.Path.{◌∙◌}
 use Rattle.log_text.proofs.TextChecks.{answer_number}
-use borrow.Author.Rules.{rules}
 use Rattle.cerberus.proofs.comparisons.cerberus_log_text_verdict.Goals as goal
 
 pub returns : goal.returns

@@ -10,7 +10,6 @@ use Rattle.attestation_log.specs.Calls.{read_out_step, read_out_verdict_step}
 use Rattle.c_encoding.specs.Logs.{log_of}
 use Rattle.cerberus.proofs.ReadOut.{read_out_number, read_out_few, read_out_length}
 use Rattle.refusal.proofs.Steps.{told_refused, told_accepted}
-use borrow.Author.Rules.{rules}
 use Rattle.cerberus.proofs.log.cerberus_log_read_out.Goals as goal
 
 pub overflow_mul-text_len : goal.overflow_mul-text_len
@@ -21,7 +20,6 @@ overflow_mul-text_len c =
     ∙ ap (λ (s : State). (read_out_verdict_step s buffer).number) c.log_of-state.ensures
     ∙ read_out_number state buffer in
     let accepted : (read_out_step state buffer).number ≡ 0 = says_yes numbered c.in-Accepted.is in
-   
     omega (arith, read_out_few state buffer accepted, ap (λ (s : State). s.count) c.log_of-state.ensures)
 
 pub returns-in-Refused : goal.returns-in-Refused
@@ -31,7 +29,6 @@ returns-in-Refused c =
     let numbered : number_of c.read_out_verdict-verdict.result ≡ (read_out_step state buffer).number = c.read_out_verdict-verdict.ensures
     ∙ ap (λ (s : State). (read_out_verdict_step s buffer).number) c.log_of-state.ensures
     ∙ read_out_number state buffer in
-   
     told_refused _ _ numbered c.in-Refused.is c.number.ensures
 
 pub returns-in-Accepted : goal.returns-in-Accepted
@@ -42,6 +39,5 @@ returns-in-Accepted c =
     ∙ ap (λ (s : State). (read_out_verdict_step s buffer).number) c.log_of-state.ensures
     ∙ read_out_number state buffer in
     let accepted : (read_out_step state buffer).number ≡ 0 = says_yes numbered c.in-Accepted.is in
-   
     told_accepted _ _ numbered c.in-Accepted.is
     (ap (λ (s : State). entry_length * s.count) c.log_of-state.ensures ∙ read_out_length state buffer accepted)

@@ -4,7 +4,6 @@ use Rattle.attestation_log.specs.State.{State}
 use Rattle.attestation_log.specs.Calls.{record_step}
 use Rattle.c_encoding.specs.Logs.{log_of, CLog, c_log}
 use Rattle.c_encoding.proofs.Logs.{log_stored}
-use borrow.Author.Rules.{rules}
 use Rattle.cerberus.proofs.log.cerberus_log_record.Goals as goal
 
 pub returns : goal.returns

@@ -1,16 +1,14 @@
-use Prim.Native.Nat.{ℕ, ◌<◌}
-use mathlib.Core.Path.{◌≡◌, sym, ap, ◌∙◌, subst}
+use Prim.Native.Nat.{ℕ}
+use mathlib.Core.Path.{◌≡◌, sym, ap, ◌∙◌}
 use mathlib.Core.List.{List}
 use native.Mathlib.Omega.{arith}
 use Rattle.refusal.specs.Steps.{outcome}
-use Rattle.refusal.proofs.Steps.{decided_yes, decided_no}
+use Rattle.refusal.proofs.Steps.{decided_yes}
 use Rattle.attestation_log.specs.State.{State}
 use Rattle.attestation_log.specs.Calls.{register_step}
 use Rattle.attestation_log.specs.Answers.{register_bytes}
 use Rattle.c_encoding.specs.Logs.{log_of}
 use Rattle.cerberus.proofs.ReadOut.{register_shown}
-use Rattle.cerberus.proofs.Answers.{told}
-use borrow.Author.Rules.{rules}
 use Rattle.cerberus.proofs.log.cerberus_log_register.Goals as goal
 
 pub returns : goal.returns
@@ -21,7 +19,6 @@ returns c =
     let numbered : c.number-number.result ≡ (register_step pmr state buffer).number = c.number-number.ensures
     ∙ c.register-read.ensures.verdict
     ∙ ap (λ (s : State). (register_step pmr s buffer).number) c.log_of.ensures in
-   
     let none : c.number-number.result ≡ 0 = omega (arith, c.if-number-gt0.false) in
     let yes = sym numbered ∙ none in
     let bytes =

@@ -2,7 +2,6 @@ use Rattle.attestation_log.specs.State.{no_state}
 use Rattle.attestation_log.specs.Calls.{reset_step}
 use Rattle.c_encoding.specs.Logs.{log_of, CLog, c_log}
 use Rattle.c_encoding.proofs.Logs.{log_stored}
-use borrow.Author.Rules.{rules}
 use Rattle.cerberus.proofs.log.cerberus_log_reset.Goals as goal
 
 pub returns : goal.returns

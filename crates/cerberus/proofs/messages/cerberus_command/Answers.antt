@@ -7,8 +7,7 @@ use Rattle.commands.specs.Commands.{command_step}
 use Rattle.commands.proofs.Claims.{command_claims}
 use Rattle.c_encoding.specs.Slots.{c_slot}
 use Rattle.c_encoding.specs.Messages.{CServed, c_served, served_in}
-use Rattle.c_encoding.proofs.SlotSteps.{served_refused, served_accepted}
-use borrow.Author.Rules.{rules}
+use Rattle.c_encoding.proofs.SlotSteps.{served_refused}
 use Rattle.cerberus.proofs.messages.cerberus_command.Goals as goal
 
 pub returns-then-number-gt0 : goal.returns-then-number-gt0
@@ -18,6 +17,5 @@ returns-then-number-gt0 c =
     let step : Served → Outcome Served = command_step good c.args.message.now in
     let made : let a = c.args in command_step c.yes-good.result a.message.now (served c.slot_of.result a.pending.now a.active.now a.response.now 0) ≡ step (served_in lent) = let a = c.args in
     λ i. command_step (c.yes-good.ensures i) a.message.now (served (c.slot_of.ensures i) a.pending.now a.active.now a.response.now 0) in
-   
     served_refused lent step c.command-answer.result.verdict (c.command-answer.ensures ∙ made)
     (command_claims.kept good c.args.message.now (served_in lent) refl) c.number-number.ensures c.if-number-gt0.true

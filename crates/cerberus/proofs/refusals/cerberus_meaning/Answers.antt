@@ -2,7 +2,6 @@ use mathlib.Core.Path.{sym, ◌∙◌}
 use Rattle.refusal.specs.Steps.{outcome}
 use Rattle.cerberus.proofs.Meanings.{meaning_short, meaning_none, meaning_put}
 use Rattle.cerberus.proofs.Answers.{told}
-use borrow.Author.Rules.{rules}
 use Rattle.cerberus.proofs.refusals.cerberus_meaning.Goals as goal
 
 pub returns-then-text-lt-LONGEST_MEANING : goal.returns-then-text-lt-LONGEST_MEANING

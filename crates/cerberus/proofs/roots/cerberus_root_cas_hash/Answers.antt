@@ -3,11 +3,8 @@ use mathlib.Core.Path.{ap}
 use native.Mathlib.Omega.{arith}
 use lib.ListN.{length}
 use Rattle.refusal.proofs.Laws.{says_yes}
-use Rattle.refusal.proofs.Steps.{decided_refused, told_accepted}
 use Rattle.root_cas.specs.RootCas.{roots_head_length}
 use Rattle.cerberus.proofs.Parts.{hash_within}
-use Rattle.cerberus.proofs.Answers.{told}
-use borrow.Author.Rules.{rules}
 use Rattle.cerberus.proofs.roots.cerberus_root_cas_hash.Goals as goal
 
 pub overflow_mul-offset : goal.overflow_mul-offset

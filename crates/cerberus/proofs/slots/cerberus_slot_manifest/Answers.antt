@@ -8,7 +8,6 @@ use Rattle.c_encoding.specs.Slots.{c_slot, held_in}
 use Rattle.cerberus.specs.Calls.{manifest_number, manifest_step}
 use Rattle.cerberus.proofs.Parts.{manifest_number_law, manifest_read}
 use Rattle.cerberus.proofs.Answers.{stopped, passed}
-use borrow.Author.Rules.{rules}
 use Rattle.cerberus.proofs.slots.cerberus_slot_manifest.Goals as goal
 
 pub returns-then-number-gt0 : goal.returns-then-number-gt0
@@ -27,7 +26,6 @@ returns c =
     let numbered : c.number-number.result ≡ manifest_number c.args.role lent = let h = lent in
     let own = c.manifest_verdict-lent.ensures ∙ ap (λ (s : Slot). lent_number (held s h.pending h.active)) c.slot_of-held.ensures in
     c.number-number.ensures ∙ manifest_number_law c.args.role h c.first-verdict.ensures own c.role_verdict.ensures in
-   
     let h = lent in
     let none : c.number-number.result ≡ 0 = omega (arith, c.if-number-gt0.false) in
     let part =

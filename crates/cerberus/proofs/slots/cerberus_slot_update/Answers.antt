@@ -6,7 +6,6 @@ use Rattle.manifest_slot.specs.Sequences.{update}
 use Rattle.manifest_slot.proofs.Steps.{step_keeps}
 use Rattle.c_encoding.specs.Slots.{CSlot, c_slot, held_in}
 use Rattle.c_encoding.proofs.SlotSteps.{slot_stored}
-use borrow.Author.Rules.{rules}
 use Rattle.cerberus.proofs.slots.cerberus_slot_update.Goals as goal
 
 pub returns : goal.returns
