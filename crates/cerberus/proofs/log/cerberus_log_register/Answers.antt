@@ -19,7 +19,7 @@ returns c =
     let numbered : c.number-number.result ≡ (register_step pmr state buffer).number = c.number-number.ensures
     ∙ c.register-read.ensures.verdict
     ∙ ap (λ (s : State). (register_step pmr s buffer).number) c.log_of.ensures in
-    let none : c.number-number.result ≡ 0 = omega (arith, c.if-number-gt0.false) in
+    let none : c.number-number.result ≡ 0 = omega arith in
     let yes = sym numbered ∙ none in
     let bytes =
     c.register-read.ensures.bytes
