@@ -25,21 +25,18 @@ pub returns-then-digits-text : goal.returns-then-digits-text
 returns-then-digits-text c =
     let step : let a = c.args in let i = c.loop-i.i in let c = c.byte_text-digits.result in same_from a.bytes.now a.text.now i ≡ (eqb (get_or c 0 0) (get_or a.text.now (2 * i) 0) && (eqb (get_or c 1 0) (get_or a.text.now (2 * i + 1) 0) && same_from a.bytes.now a.text.now (i + 1))) = let a = c.args in
     same_step a.bytes.now a.text.now c.byte_text-digits.result c.loop-i.i (omega arith) (omega arith) c.byte_text-digits.ensures in
-   
     sym (sym c.loop-i.invariant.1 ∙ step ∙ rw (ne_eqb _ _ c.if-digits-text.true))
 
 pub returns-then-digits-text-2 : goal.returns-then-digits-text-2
 returns-then-digits-text-2 c =
     let step : let a = c.args in let i = c.loop-i.i in let c = c.byte_text-digits.result in same_from a.bytes.now a.text.now i ≡ (eqb (get_or c 0 0) (get_or a.text.now (2 * i) 0) && (eqb (get_or c 1 0) (get_or a.text.now (2 * i + 1) 0) && same_from a.bytes.now a.text.now (i + 1))) = let a = c.args in
     same_step a.bytes.now a.text.now c.byte_text-digits.result c.loop-i.i (omega arith) (omega arith) c.byte_text-digits.ensures in
-   
     sym (sym c.loop-i.invariant.1 ∙ step ∙ rw (eq-eqb _ _ c.if-digits-text.false, ne_eqb _ _ c.if-digits-text-2.true))
 
 pub loop-i-preserved : goal.loop-i-preserved
 loop-i-preserved c =
     let step : let a = c.args in let i = c.loop-i.i in let c = c.byte_text-digits.result in same_from a.bytes.now a.text.now i ≡ (eqb (get_or c 0 0) (get_or a.text.now (2 * i) 0) && (eqb (get_or c 1 0) (get_or a.text.now (2 * i + 1) 0) && same_from a.bytes.now a.text.now (i + 1))) = let a = c.args in
     same_step a.bytes.now a.text.now c.byte_text-digits.result c.loop-i.i (omega arith) (omega arith) c.byte_text-digits.ensures in
-   
     (omega arith, sym (step ∙ rw (eq-eqb _ _ c.if-digits-text.false, eq-eqb _ _ c.if-digits-text-2.false)) ∙ c.loop-i.invariant.1)
 
 pub returns : goal.returns
