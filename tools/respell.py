@@ -126,7 +126,8 @@ def main(argv):
     for path in files(".antt", ".rt", ".edit"):
         with open(path, encoding="utf-8") as f:
             text = f.read()
-        kept = library_names(text)
+        # In src/ a name that has its spelling already is a function's, not a lemma's.
+        kept = library_names(text) | ({n for n in new if not turns(n)} if path.endswith(".rt") else set())
         out = TOKEN.sub(lambda m: new[m.group()] if m.group() in new and m.group() not in kept else m.group(), text)
         if out != text:
             changed += 1

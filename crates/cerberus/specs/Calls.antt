@@ -74,10 +74,10 @@ hash_place hash_type index = (roots_head_length + hash_length hash_type * index,
 
 -- ---- certificate slots: the lowest slot, "or CERBERUS_NO_CHAIN if none does"
 
-abbrev pub slotNumber : Option ℕ → ℕ
-slotNumber none = 255
-slotNumber (some k) = k
+abbrev pub slot_number : Option ℕ → ℕ
+slot_number none = 255
+slot_number (some k) = k
 
 -- how many slots hold a chain, and the lowest that does
 abbrev pub chains_told : ℕ → Outcome (ℕ × ℕ)
-chains_told mask = outcome 0 (chain_count mask, slotNumber (lowest_chain mask))
+chains_told mask = outcome 0 (chain_count mask, slot_number (lowest_chain mask))

@@ -22,16 +22,16 @@ pub data Example : Type 0 where
   one_region_image : ℕ → ℕ → ℕ → Example
 
 -- what the writer makes of an image's fields, where their element has n bytes
-pub record ImageOf (n hash_type : ℕ) (mustValidate : Bool) (hash region buffer : List ℕ) : Type 0 where
+pub record ImageOf (n hash_type : ℕ) (must_validate : Bool) (hash region buffer : List ℕ) : Type 0 where
   -- it takes a buffer of n bytes, and no other
-  pub accepted : length buffer ≡ n → (image_write_step end_is_last hash_type (bit_of mustValidate) hash region buffer).number ≡ 0
-  pub refused : (length buffer ≡ n → ⊥) → (image_write_step end_is_last hash_type (bit_of mustValidate) hash region buffer).number ≡ 3
+  pub accepted : length buffer ≡ n → (image_write_step end_is_last hash_type (bit_of must_validate) hash region buffer).number ≡ 0
+  pub refused : (length buffer ≡ n → ⊥) → (image_write_step end_is_last hash_type (bit_of must_validate) hash region buffer).number ≡ 3
   -- what it writes has n bytes, and reads back as what was given
-  pub bytes : length buffer ≡ n → length (image_write_step end_is_last hash_type (bit_of mustValidate) hash region buffer).after ≡ n
+  pub bytes : length buffer ≡ n → length (image_write_step end_is_last hash_type (bit_of must_validate) hash region buffer).after ≡ n
   pub back : length buffer ≡ n
-      → let element = (image_write_step end_is_last hash_type (bit_of mustValidate) hash region buffer).after in
+      → let element = (image_write_step end_is_last hash_type (bit_of must_validate) hash region buffer).after in
       (reply (image_number end_is_last element) (image_fields element)
-      ≡ reply 0 (record { hash_type = hash_type; region_count = 1; must_validate = mustValidate }))
+      ≡ reply 0 (record { hash_type = hash_type; region_count = 1; must_validate = must_validate }))
       × ((image_hash end_is_last element ≡ hash) × (image_regions end_is_last element ≡ region))
 
 -- a to d are the bytes of an address; `region_number end_is_last region ≡ 0` says that region is the eight bytes of a sound region
@@ -41,9 +41,9 @@ Holds (rw_region element r) = reply (rw_region_number end_is_last element) (rw_r
 Holds (start_is_end first n) = (a b c d : ℕ)
     → let element = first ∷ 0x00 ∷ 0x00 ∷ 0x00 ∷ a ∷ b ∷ c ∷ d ∷ a ∷ b ∷ c ∷ d ∷ [] in
     (rw_region_number end_is_last element ≡ 0) × (region_size (rw_region_fields element).region ≡ n)
-Holds (one_region_image hash_type hashBytes n) = (mustValidate : Bool) (hash region buffer : List ℕ)
-    → length hash ≡ hashBytes → region_number end_is_last region ≡ 0
-    → ImageOf n hash_type mustValidate hash region buffer
+Holds (one_region_image hash_type hash_bytes n) = (must_validate : Bool) (hash region buffer : List ℕ)
+    → length hash ≡ hash_bytes → region_number end_is_last region ≡ 0
+    → ImageOf n hash_type must_validate hash region buffer
 
 -- ---- the table
 

@@ -4,7 +4,7 @@ use report::Report;
 use signed_image::{SignedImage, SignedImageRead};
 
 // The reader's number for an element that is all zero but for its hash type and region count: each region is from 0 to 0.
-fn read_number_law(hash_type: u8, region_count: u8, element: &mut [u8]) -> u8 {
+fn read_number(hash_type: u8, region_count: u8, element: &mut [u8]) -> u8 {
     let head = [hash_type, region_count];
     octets::put(element, 0, &head);
     let read = SignedImage::read(element);
@@ -28,15 +28,15 @@ fn sha512_two_regions(report: Report) -> Report {
     let mut long = [0u8; 85];
     let r1 = report.example(
         b"SHA-512 and two regions, 84 bytes: read",
-        read_number_law(2, 2, &mut right) == 0,
+        read_number(2, 2, &mut right) == 0,
     );
     let r2 = r1.example(
         b"SHA-512 and two regions, 83 bytes: 12",
-        read_number_law(2, 2, &mut short) == 12,
+        read_number(2, 2, &mut short) == 12,
     );
     let r3 = r2.example(
         b"SHA-512 and two regions, 85 bytes: 12",
-        read_number_law(2, 2, &mut long) == 12,
+        read_number(2, 2, &mut long) == 12,
     );
     let r4 = r3.example(
         b"SHA-512 and two regions, a buffer of 84 bytes: written",
@@ -58,15 +58,15 @@ fn sha256_one_region(report: Report) -> Report {
     let mut long = [0u8; 45];
     let r1 = report.example(
         b"SHA-256 and one region, 44 bytes: read",
-        read_number_law(0, 1, &mut right) == 0,
+        read_number(0, 1, &mut right) == 0,
     );
     let r2 = r1.example(
         b"SHA-256 and one region, 43 bytes: 12",
-        read_number_law(0, 1, &mut short) == 12,
+        read_number(0, 1, &mut short) == 12,
     );
     r2.example(
         b"SHA-256 and one region, 45 bytes: 12",
-        read_number_law(0, 1, &mut long) == 12,
+        read_number(0, 1, &mut long) == 12,
     )
 }
 

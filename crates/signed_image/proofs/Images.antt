@@ -185,11 +185,11 @@ module _ (j : Judgement) (t : ℕ) (m : Bool) (hash regions : List ℕ) (k : Ima
         sound = ap (λ (l : List ℕ). j.bad_regions l (item_count region_length regions)) regions_back ∙ k.sound;
       }
 
-pub image_back : (j : Judgement) (hash_type : ℕ) (mustValidate : Bool) (hash regions buffer : List ℕ)
-    → let w = image_write_step j hash_type (bit_of mustValidate) hash regions buffer in
+pub image_back : (j : Judgement) (hash_type : ℕ) (must_validate : Bool) (hash regions buffer : List ℕ)
+    → let w = image_write_step j hash_type (bit_of must_validate) hash regions buffer in
     w.number ≡ 0
     → (reply (image_number j w.after) (image_fields w.after)
-    ≡ reply 0 (record { hash_type = hash_type; region_count = item_count region_length regions; must_validate = mustValidate }))
+    ≡ reply 0 (record { hash_type = hash_type; region_count = item_count region_length regions; must_validate = must_validate }))
     × ((image_hash j w.after ≡ hash) × (image_regions j w.after ≡ regions))
 image_back j t m hash regions buffer e =
     let w = image_writes j t hash regions m buffer e in

@@ -10,11 +10,11 @@ use Rattle.signed_image.specs.SignedImage.{hash_type_of, must_validate_of, image
 
 -- fields, hash and regions, however regions are judged
 pub record RoundTrips (j : Judgement) : Type 0 where
-  pub image_back : (hash_type : ℕ) (mustValidate : Bool) (hash regions buffer : List ℕ)
-      → let w = image_write_step j hash_type (bit_of mustValidate) hash regions buffer in
+  pub image_back : (hash_type : ℕ) (must_validate : Bool) (hash regions buffer : List ℕ)
+      → let w = image_write_step j hash_type (bit_of must_validate) hash regions buffer in
       w.number ≡ 0
       → (reply (image_number j w.after) (image_fields w.after)
-      ≡ reply 0 (record { hash_type = hash_type; region_count = item_count region_length regions; must_validate = mustValidate }))
+      ≡ reply 0 (record { hash_type = hash_type; region_count = item_count region_length regions; must_validate = must_validate }))
       × ((image_hash j w.after ≡ hash) × (image_regions j w.after ≡ regions))
   pub image_again : (b buffer : List ℕ) → Bytes b → image_number j b ≡ 0 → length buffer ≡ length b
       → image_write_step j (hash_type_of b) (bit_of (must_validate_of b)) (image_hash j b) (image_regions j b) buffer ≡ outcome 0 b

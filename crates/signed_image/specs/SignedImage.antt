@@ -89,11 +89,11 @@ image_fields_malformed j hash_type hash regions = any (image_field_faults j hash
 
 -- "the must-validate bit", given as a number, holds no greater one
 abbrev pub bad_flag : ℕ → Bool
-bad_flag mustValidate = ltb 1 mustValidate
+bad_flag must_validate = ltb 1 must_validate
 
 abbrev pub image_bytes : ℕ → ℕ → List ℕ → List ℕ → List ℕ
-image_bytes hash_type mustValidate hash regions = (hash_type ∷ item_count region_length regions ∷ mustValidate ∷ 0 ∷ []) ++ hash ++ regions
+image_bytes hash_type must_validate hash regions = (hash_type ∷ item_count region_length regions ∷ must_validate ∷ 0 ∷ []) ++ hash ++ regions
 
 abbrev pub image_write_step : Judgement → ℕ → ℕ → List ℕ → List ℕ → List ℕ → Outcome (List ℕ)
-image_write_step j hash_type mustValidate hash regions buffer =
-    write_step (bad_flag mustValidate || image_fields_malformed j hash_type hash regions) (image_bytes hash_type mustValidate hash regions) buffer
+image_write_step j hash_type must_validate hash regions buffer =
+    write_step (bad_flag must_validate || image_fields_malformed j hash_type hash regions) (image_bytes hash_type must_validate hash regions) buffer
