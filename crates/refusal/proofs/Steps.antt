@@ -4,8 +4,7 @@ use mathlib.Core.Path.{◌≡◌, refl, sym, ap, ◌∙◌}
 use mathlib.Core.List.{List, [], ◌∷◌}
 use native.Mathlib.Omega.{arith}
 use Rattle.refusal.specs.declared.Refusal.{Refusal}
-use Rattle.refusal.specs.declared.Verdict.{Verdict}
-use Rattle.refusal.specs.declared.Verdict.TheVariants.{Accepted, Refused}
+use Rattle.std.specs.Prelude.{Result, Ok, Err}
 use Rattle.refusal.specs.Refusals.{refusal_number, number_of}
 use Rattle.refusal.specs.Rules.{first◌then◌, accepted◌then◌else◌}
 use Rattle.refusal.specs.Steps.{Outcome, outcome, decided, within, Keeps, Reply, reply, refused_by, continued, given}
@@ -25,29 +24,29 @@ module _ {A : Type 0} where
   decided_first zero m before done = refl
   decided_first (suc n) m before done = refl
 
-  -- ---- by the verdict of a function, which has the step's number
+  -- ---- by the answer of a function, which has the step's number
 
-  pub decided_refused : {v : Verdict} {n : ℕ} {why : Refusal} (before done : A) → number_of v ≡ n → v ≡ Refused why → outcome (number_of v) before ≡ decided n before done
+  pub decided_refused : {X : Type 0} {v : Result X Refusal} {n : ℕ} {why : Refusal} (before done : A) → number_of v ≡ n → v ≡ Err why → outcome (number_of v) before ≡ decided n before done
   decided_refused before done e f = (λ i. outcome (e i) before) ∙ decided_no before done (says_no e f)
 
-  pub decided_accepted : {v : Verdict} {n : ℕ} {left : A} (before done : A) → number_of v ≡ n → v ≡ Accepted → left ≡ done
+  pub decided_accepted : {X : Type 0} {v : Result X Refusal} {x : X} {n : ℕ} {left : A} (before done : A) → number_of v ≡ n → v ≡ Ok x → left ≡ done
       → outcome (number_of v) left ≡ decided n before done
   decided_accepted before done e f is = (λ i. outcome (ap number_of f i) (is i)) ∙ decided_yes before done (says_yes e f)
 
   -- the same, where the refusal's number is told, or 0
-  pub told_refused : {v : Verdict} {why : Refusal} {n r : ℕ} (before done : A) → number_of v ≡ n → v ≡ Refused why → r ≡ refusal_number why
+  pub told_refused : {X : Type 0} {v : Result X Refusal} {why : Refusal} {n r : ℕ} (before done : A) → number_of v ≡ n → v ≡ Err why → r ≡ refusal_number why
       → outcome r before ≡ decided n before done
   told_refused before done e f g = (λ i. outcome ((g ∙ ap number_of (sym f)) i) before) ∙ decided_refused before done e f
 
-  pub told_accepted : {v : Verdict} {n : ℕ} {left : A} (before done : A) → number_of v ≡ n → v ≡ Accepted → left ≡ done → outcome 0 left ≡ decided n before done
+  pub told_accepted : {X : Type 0} {v : Result X Refusal} {x : X} {n : ℕ} {left : A} (before done : A) → number_of v ≡ n → v ≡ Ok x → left ≡ done → outcome 0 left ≡ decided n before done
   told_accepted before done e f is = (λ i. outcome 0 (is i)) ∙ decided_yes before done (says_yes e f)
 
   -- the first rules refuse, or accept and others decide
-  pub first_refused : {v : Verdict} {n : ℕ} {why : Refusal} (m : ℕ) (before done : A) → number_of v ≡ n → v ≡ Refused why
+  pub first_refused : {X : Type 0} {v : Result X Refusal} {n : ℕ} {why : Refusal} (m : ℕ) (before done : A) → number_of v ≡ n → v ≡ Err why
       → outcome (number_of v) before ≡ decided (first n then m) before done
   first_refused m before done e f = decided_refused before done (e ∙ sym (first_no m (says_no e f))) f
 
-  pub first_passed : {v : Verdict} {n m : ℕ} {o : Outcome A} (before done : A) → number_of v ≡ n → v ≡ Accepted → o ≡ decided m before done
+  pub first_passed : {X : Type 0} {v : Result X Refusal} {x : X} {n m : ℕ} {o : Outcome A} (before done : A) → number_of v ≡ n → v ≡ Ok x → o ≡ decided m before done
       → o ≡ decided (first n then m) before done
   first_passed before done e f is = is ∙ ap (λ (k : ℕ). decided k before done) (sym (first_yes _ (says_yes e f)))
 

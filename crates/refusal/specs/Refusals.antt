@@ -1,11 +1,11 @@
--- Document 01, "Numbers that say no": each refusal with its number and its meaning, and the number of a verdict.
-use Rattle.std.specs.Prelude.{ℕ, List, [], ◌∷◌, get_or}
+-- Document 01, "Numbers that say no": each refusal with its number and its meaning, and the number of an answer.
+use Rattle.std.specs.Prelude.{ℕ, zero, suc, List, [], ◌∷◌, Result, Ok, Err, slice_get}
+use Rattle.std.specs.Option.{ok_or}
 use Prim.Native.Char.{code}
 use Prim.Native.String.{String}
 use Rattle.refusal.specs.declared.Refusal.{Refusal}
 use Rattle.refusal.specs.declared.Refusal.TheVariants.{ForeignHeader, BadLength, WrongBuffer, UnsoundState, OutOfRange, OutOfStep, LogFull, BadManifestHeader, StaleVersion, BadSignature, NotOffered, MalformedElement}
-use Rattle.refusal.specs.declared.Verdict.{Verdict}
-use Rattle.refusal.specs.declared.Verdict.TheVariants.{Accepted, Refused}
+use Rattle.refusal.specs.declared.NoRefusal.{NoRefusal}
 
 -- ---- the table: "Number" and "Meaning"
 
@@ -39,32 +39,32 @@ words MalformedElement = "malformed element"
 
 -- ---- numbers
 
--- a verdict's number, which is 0 where nothing is refused
-abbrev pub number_of : Verdict → ℕ
-number_of Accepted = 0
-number_of (Refused why) = refusal_number why
+-- an answer's number, which is 0 where nothing is refused
+abbrev pub number_of : {A : Type 0} → Result A Refusal → ℕ
+number_of (Ok x) = 0
+number_of (Err why) = refusal_number why
 
--- every verdict, each at its number
-abbrev pub verdicts : List Verdict
-verdicts =
-    Accepted
-    ∷ Refused ForeignHeader
-    ∷ Refused BadLength
-    ∷ Refused WrongBuffer
-    ∷ Refused UnsoundState
-    ∷ Refused OutOfRange
-    ∷ Refused OutOfStep
-    ∷ Refused LogFull
-    ∷ Refused BadManifestHeader
-    ∷ Refused StaleVersion
-    ∷ Refused BadSignature
-    ∷ Refused NotOffered
-    ∷ Refused MalformedElement
+-- every refusal, in the order of their numbers, the first of which is 1
+abbrev pub refusals : List Refusal
+refusals =
+    ForeignHeader
+    ∷ BadLength
+    ∷ WrongBuffer
+    ∷ UnsoundState
+    ∷ OutOfRange
+    ∷ OutOfStep
+    ∷ LogFull
+    ∷ BadManifestHeader
+    ∷ StaleVersion
+    ∷ BadSignature
+    ∷ NotOffered
+    ∷ MalformedElement
     ∷ []
 
--- the verdict with this number; no refusal has a number that isn't in the table
-unfoldable pub verdict_of : ℕ → Verdict
-verdict_of n = get_or verdicts n Accepted
+-- the refusal with this number; no refusal has a number that isn't in the table
+unfoldable pub refusal_of : ℕ → Result Refusal NoRefusal
+refusal_of zero = Err (record { 0 = 0 })
+refusal_of (suc n) = ok_or (slice_get refusals n) (record { 0 = suc n })
 
 -- ---- meanings, as ASCII bytes
 

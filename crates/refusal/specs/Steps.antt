@@ -1,6 +1,8 @@
 -- What a call answers and leaves, once for any record of what it may change. "Each returns its number and nothing else; the state handed back is the state
 -- handed in, and every buffer keeps its bytes" (document 01, "Numbers that say no") is one law about these definitions: `Keeps`.
-use Rattle.std.specs.Prelude.{ℕ, ◌<◌, ◌≡◌, List, [], ◌∷◌}
+use Rattle.std.specs.Prelude.{ℕ, ◌<◌, ◌≡◌, List, [], ◌∷◌, Result, Ok, Err}
+use Rattle.refusal.specs.declared.Refusal.{Refusal}
+use Rattle.refusal.specs.Refusals.{refusal_number}
 use Rattle.refusal.specs.Rules.{accepted◌then◌else◌}
 
 -- ---- a call that may change something
@@ -27,7 +29,7 @@ Keeps before o = 0 < o.number → o.after ≡ before
 
 -- ---- a call that hands back a value only where it accepts
 
--- its number, and the value, none beside a refusal. Each enum that such a call answers has a definition that says which reply each of its cases is
+-- its number, and the value, none beside a refusal
 pub record Reply (A : Type 0) : Type 0 where
   pub number : ℕ
   pub values : List A
@@ -39,6 +41,15 @@ reply n x = record { number = n; values = accepted n then (x ∷ []) else [] }
 -- no value, for that number
 abbrev pub refused_by : {A : Type 0} → ℕ → Reply A
 refused_by n = record { number = n; values = [] }
+
+-- what a `Result` says, by what is seen of its value
+abbrev pub reply_by : {A B : Type 0} → (A → B) → Result A Refusal → Reply B
+reply_by view (Ok x) = record { number = 0; values = view x ∷ [] }
+reply_by view (Err why) = refused_by (refusal_number why)
+
+-- the same, where all of its value is seen
+abbrev pub reply_of : {A : Type 0} → Result A Refusal → Reply A
+reply_of = reply_by (λ x. x)
 
 -- the first of the values decides how it goes on; without one, what stood before is left
 abbrev pub continued : {A B : Type 0} → ℕ → List A → B → (A → Outcome B) → Outcome B
