@@ -1,13 +1,14 @@
 -- Parts of buffers: bytes read from an index on, and parts that are put into an array one behind the other.
-use Prim.Native.Nat.{ℕ, ◌+◌, ◌-◌, ◌≤◌}
+use Prim.Native.Nat.{ℕ, zero, suc, ◌+◌, ◌-◌, ◌<◌, ◌≤◌, ◌*◌}
 use mathlib.Core.Path.{◌≡◌, refl, sym, ap, ◌∙◌}
-use mathlib.Core.List.{List, [], ◌++◌, append-nil}
-use native.Mathlib.Nat.{zero-add}
+use mathlib.Core.List.{List, [], ◌∷◌, ◌++◌, append-nil}
+use native.Mathlib.Nat.{zero-add, add-zero}
 use native.Mathlib.Omega.{arith}
-use lib.ListN.{length, take, drop, length-append, length-take, length-drop, drop_of_length-le, take-append-drop}
+use lib.ListN.{length, get_or, take, drop, replicate, length-append, length-take, length-drop, drop_of_length-le, take-append-drop}
 use lib.Seq.{take_at, take_all, length-take-le, drop-append_seam, drop-drop}
-use Rattle.octets.specs.Octets.{Bytes, zeros, pasted, padded, bytes_at}
-use Rattle.octets.proofs.Buffers.{pasted_fits, length_pasted, length_zeros, length_padded, drop_zeros, bytes_append, bytes_take, bytes_drop, bytes_zeros}
+use Rattle.octets.specs.Octets.{Bytes, number_at, zeros, pasted, padded, bytes_at}
+use Rattle.octets.proofs.Numbers.{number_take, number_drop}
+use Rattle.octets.proofs.Buffers.{pasted_fits, length_pasted, length_zeros, length_padded, padded_whole, drop_zeros, zeros_byte, bytes_append, bytes_take, bytes_drop, bytes_zeros}
 
 -- ---- read from an index on
 
@@ -42,6 +43,11 @@ bytes_at_none w b i h =
     let all : w - 0 ≡ w = omega arith in
     ap (padded w) e ∙ ap zeros all
 
+-- the same, as a chunk of that length
+pub chunk_whole : (w : ℕ) (b : List ℕ) (i : ℕ) (chunk : List ℕ) → w ≤ length (drop i b) → chunk ≡ take w (drop i b) → chunk ≡ bytes_at w b i
+unfolding bytes_at
+chunk_whole w b i chunk h e = e ∙ sym (padded_whole w (take w (drop i b)) (length-take-le w (drop i b) h))
+
 -- put to the front of zeros
 pub put_at : (w : ℕ) (b : List ℕ) (i : ℕ) (part : List ℕ) → part ≡ take w (drop i b) → pasted (zeros w) 0 part ≡ bytes_at w b i
 unfolding bytes_at
@@ -51,6 +57,30 @@ put_at w b i part e =
     ∙ ap (λ (n : ℕ). part ++ drop n (zeros w)) (zero-add (length part))
     ∙ ap (λ (x : List ℕ). part ++ x) (drop_zeros (length part) w)
     ∙ ap (padded w) e
+
+-- put to the front of zeros, as there are fewer
+pub rest_put : (w : ℕ) (b : List ℕ) (i : ℕ) (rest : List ℕ) → rest ≡ drop i b → length rest < w → pasted (replicate w 0) 0 rest ≡ bytes_at w b i
+unfolding zeros
+rest_put w b i rest e h = put_at w b i rest (e ∙ sym (take_all w (drop i b) (omega (arith, ap length e))))
+
+-- zeros behind the bytes don't count
+pad_byte : (x : List ℕ) (n i : ℕ) → get_or (x ++ zeros n) i 0 ≡ get_or x i 0
+pad_byte [] n i = zeros_byte n i
+pad_byte (y ∷ x) n zero = refl
+pad_byte (y ∷ x) n (suc i) = pad_byte x n i
+
+number_pad : (w : ℕ) (x : List ℕ) (n i : ℕ) → number_at w (x ++ zeros n) i ≡ number_at w x i
+number_pad zero x n i = refl
+number_pad (suc w) x n i = λ j. pad_byte x n i j + 256 * number_pad w x n (i + 1) j
+
+-- a number of them all
+pub number_of_bytes_at : (w : ℕ) (b : List ℕ) (i : ℕ) → number_at w (bytes_at w b i) 0 ≡ number_at w b i
+unfolding bytes_at
+number_of_bytes_at w b i =
+    number_pad w (take w (drop i b)) _ 0
+    ∙ number_take w w (drop i b) 0 (omega arith)
+    ∙ number_drop w i b 0
+    ∙ ap (number_at w b) (add-zero i)
 
 -- n elements from index i on, and those behind them
 pub take_then_drop : (n i : ℕ) (b : List ℕ) → take n (drop i b) ++ drop (i + n) b ≡ drop i b

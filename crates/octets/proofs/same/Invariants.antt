@@ -1,13 +1,10 @@
-use Prim.Native.Nat.{◌-◌, ◌≤◌}
-use mathlib.Core.Path.{◌≡◌}
-use mathlib.Core.Bool.{◌&&◌}
-use lib.Dec.{eqb}
-use lib.ListN.{length, drop}
+use Rattle.std.proofs.Common.{◌≡◌, ◌&&◌, eqb, length}
 use Rattle.octets.specs.Octets.{same_bytes}
 use Rattle.octets.proofs.same.Given as goal
 
-abbrev pub invariant-loop-i : goal.invariant-loop-i
-invariant-loop-i l = (l.i ≤ length l.a) × ((eqb l.difference 0 && same_bytes (drop l.i l.a) (drop l.i l.b)) ≡ same_bytes l.a l.b)
-
-abbrev pub decreases-loop-i : goal.decreases-loop-i
-decreases-loop-i l = length l.a - l.i
+-- by what the iterator has left of either list
+abbrev pub invariant-loop-x : goal.invariant-loop-x
+invariant-loop-x l =
+    let xs = l.x-iterator.a.rest.now in
+    let ys = l.x-iterator.b.rest.now in
+    (length xs ≡ length ys) × ((eqb l.difference 0 && same_bytes xs ys) ≡ same_bytes l.a l.b)
