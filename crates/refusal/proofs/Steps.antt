@@ -7,8 +7,8 @@ use Rattle.refusal.specs.declared.Refusal.{Refusal}
 use Rattle.std.specs.Prelude.{Result, Ok, Err}
 use Rattle.refusal.specs.Refusals.{refusal_number, number_of}
 use Rattle.refusal.specs.Rules.{first◌then◌, accepted◌then◌else◌}
-use Rattle.refusal.specs.Steps.{Outcome, outcome, decided, within, Keeps, Reply, reply, refused_by, continued, given}
-use Rattle.refusal.proofs.Laws.{accepted_no, first_yes, first_no, says_no, says_yes}
+use Rattle.refusal.specs.Steps.{Outcome, outcome, decided, within, Keeps, Reply, reply, refused_by, reply_of, continued, given}
+use Rattle.refusal.proofs.Laws.{refusal_positive, accepted_no, first_yes, first_no, says_no, says_yes}
 
 module _ {A : Type 0} where
   -- ---- by the number
@@ -76,6 +76,15 @@ module _ {A : Type 0} where
 
   pub reply_no : {n : ℕ} (x : A) → 0 < n → refused_by n ≡ reply n x
   reply_no {n = n} x h = λ i. record { number = n; values = sym (accepted_no {n = n} (x ∷ []) [] h) i }
+
+  -- what a `Result` is whose reply is known
+  pub reply_taken : {r : Result A Refusal} {n : ℕ} {x : A} → reply_of r ≡ reply n x → n ≡ 0 → r ≡ Ok x
+  reply_taken {r = Ok y} {x = x} e h = ap Ok (ap first_value (ap (λ (p : Reply A). p.values) e ∙ ap (λ (p : Reply A). p.values) (sym (reply_yes x h))))
+    where
+      first_value : List A → A
+      first_value [] = x
+      first_value (v ∷ vs) = v
+  reply_taken {r = Err why} e h = absurd (omega (arith, refusal_positive why, ap (λ (p : Reply A). p.number) e))
 
   -- what goes on from a reply
   pub given_yes : {B : Type 0} {n : ℕ} (x : B) (before : A) (next : B → Outcome A) → n ≡ 0 → given (reply n x) before next ≡ next x
