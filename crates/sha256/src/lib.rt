@@ -4,60 +4,36 @@
 mod initial_hash_value;
 mod message;
 
-ghost use Rattle.std.specs.Prelude.{◌≡◌, ◌++◌, replicate};
-ghost use Rattle.refusal.specs.Refusals.{number_of};
-ghost use Rattle.sha256.specs.Sha256.{sha256_number, sha256_digest};
+ghost use Rattle.std.specs.Prelude.{◌≡◌, ◌++◌};
+ghost use Rattle.refusal.specs.Steps.{reply_of};
+ghost use Rattle.sha256.specs.Sha256.{sha256_reply};
 
-use refusal::{Refusal, Verdict};
+use refusal::Refusal;
 use sha256_blocks::whole_blocks;
 
 // From this length on a message has no digest: its length in bits has no place in the padding.
 pub const TOO_LONG: usize = 0x2000_0000_0000_0000;
 
-// A digest; zeros where the message is refused.
-#[derive(Clone, Copy)]
-pub struct Hashed {
-    pub verdict: Verdict,
-    pub digest: [u8; 32],
-}
-
-fn too_long() -> Hashed
-    ensures verdict { number_of result.verdict ≡ 2 }
-    ensures digest { result.digest ≡ replicate 32 0 }
-{
-    Hashed {
-        verdict: Verdict::Refused(Refusal::BadLength),
-        digest: [0u8; 32],
-    }
-}
-
 // Refuses a message of 2^61 bytes or more.
-pub fn sha256(message: &[u8]) -> Hashed
-    ensures verdict { number_of result.verdict ≡ sha256_number message.now }
-    ensures digest { result.digest ≡ sha256_digest message.now }
+#[tactic(auto, using(crate::proofs::Laws::reply_refused))]
+pub fn sha256(message: &[u8]) -> Result<[u8; 32], Refusal>
+    ensures { reply_of result ≡ sha256_reply message.now }
 {
     if message.len() >= TOO_LONG {
-        return too_long();
+        return Err(Refusal::BadLength);
     }
     let mut h = initial_hash_value::SHA256;
-    Hashed {
-        verdict: Verdict::Accepted,
-        digest: message::digest(&mut h, 0, message),
-    }
+    Ok(message::digest(&mut h, 0, message))
 }
 
 // The digest of a block followed by a message, which need not lie together.
-pub fn sha256_after_block(block: [u8; 64], message: &[u8]) -> Hashed
-    ensures verdict { number_of result.verdict ≡ sha256_number (block ++ message.now) }
-    ensures digest { result.digest ≡ sha256_digest (block ++ message.now) }
+pub fn sha256_after_block(block: [u8; 64], message: &[u8]) -> Result<[u8; 32], Refusal>
+    ensures { reply_of result ≡ sha256_reply (block ++ message.now) }
 {
     if message.len() >= TOO_LONG - 64 {
-        return too_long();
+        return Err(Refusal::BadLength);
     }
     let mut h = initial_hash_value::SHA256;
     whole_blocks(&mut h, &block);
-    Hashed {
-        verdict: Verdict::Accepted,
-        digest: message::digest(&mut h, 1, message),
-    }
+    Ok(message::digest(&mut h, 1, message))
 }

@@ -1,21 +1,19 @@
-use Rattle.std.proofs.Common.{◌≡◌, List, ℕ, ◌++◌, length, refl, sym, ap, ◌∙◌, arith, rules, length-append}
+use Rattle.std.proofs.Common.{◌≡◌, List, ℕ, ◌++◌, length, refl, ap, ◌∙◌, arith, rules, length-append}
 use Rattle.fips180.specs.Hash.{word_bytes_of}
 use Rattle.fips180.specs.Continued.{hash_after}
 use Rattle.fips180.specs.Family.{block_bytes}
 use Rattle.fips180.specs.Sha256.{family32, initial256, sha256}
 use Rattle.fips180.proofs.Blocks.{hash_value_one}
 use Rattle.fips180.proofs.Continued.{digest_all, digest_block}
-use Rattle.sha256.proofs.Laws.{number_accepted, number_refused, digest_accepted, digest_refused}
+use Rattle.sha256.proofs.Laws.{reply_accepted, reply_refused}
 use Rattle.sha256.proofs.sha256_after_block.Goals as goal
 
 pub returns-then-message : goal.returns-then-message
 returns-then-message c =
     let a = c.args in
-    let m = a.block ++ a.message.now in
     let e : length a.block ≡ 64 = search rules in
     let n = length-append a.block a.message.now in
-    let told = c.too_long.ensures in
-    record { verdict = told.verdict ∙ sym (number_refused m (omega arith)); digest = told.digest ∙ sym (digest_refused m (omega arith)) }
+    reply_refused (a.block ++ a.message.now) (omega arith)
 
 pub returns : goal.returns
 unfolding sha256 initial256 block_bytes family32
@@ -25,11 +23,8 @@ returns c =
     let e : length a.block ≡ 64 = search rules in
     let n = length-append a.block a.message.now in
     let block = hash_value_one family32 (omega arith) initial256 a.block c.whole_blocks.ensures e in
-    record {
-      verdict = sym (number_accepted m (omega arith));
-      digest =
-          c.digest.ensures ∙ ap (λ (v : List ℕ). word_bytes_of family32 8 (hash_after family32 v 1 a.message.now)) block
-          ∙ digest_all family32 _ 32 refl
-          ∙ digest_block family32 (omega arith) initial256 a.block 32 a.message.now e
-          ∙ sym (digest_accepted m (omega arith));
-    }
+    reply_accepted m
+    (c.digest.ensures ∙ ap (λ (v : List ℕ). word_bytes_of family32 8 (hash_after family32 v 1 a.message.now)) block
+    ∙ digest_all family32 _ 32 refl
+    ∙ digest_block family32 (omega arith) initial256 a.block 32 a.message.now e)
+    (omega arith)
