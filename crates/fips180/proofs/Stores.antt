@@ -71,6 +71,15 @@ module _ (f : Family) where
       ∙ append_assoc (take at b) (word hi) (word lo)
       ∙ (λ y. take (e y) b ++ big_words k hi lo (8 * n) h g y)
 
+  pub two_words : (n hi lo : ℕ) → hi ≡ 8 * n / 2 ^ (8 * f.word_bytes) % 2 ^ (8 * f.word_bytes) → lo ≡ 8 * n % 2 ^ (8 * f.word_bytes)
+      → word_bytes_of f 2 (hi ∷ lo ∷ []) ≡ big_endian (length_bytes f) (8 * n)
+  unfolding word_bytes_of length_bytes
+  two_words n hi lo g h =
+      let k : ℕ = f.word_bytes in
+      let low : word hi ≡ word (8 * n / 2 ^ (8 * k)) =
+      ap word (g ∙ ap (λ (x : ℕ). 8 * n / 2 ^ (8 * k) % 2 ^ x) (sym (zero-add (8 * k)))) ∙ big_low k 0 (8 * n / 2 ^ (8 * k)) in
+      ap (λ (x : List ℕ). x ++ word lo) low ∙ big_words k (8 * n / 2 ^ (8 * k)) lo (8 * n) refl h
+
   -- ---- the words of a digest
   pub words_more : {next : List ℕ} (s out : List ℕ) (i : ℕ) → i * f.word_bytes + f.word_bytes ≤ length out → take (i * f.word_bytes) out ≡ word_bytes_of f i s
       → next ≡ pasted out (i * f.word_bytes) (word (get_or s i 0)) → take ((i + 1) * f.word_bytes) next ≡ word_bytes_of f (i + 1) s
