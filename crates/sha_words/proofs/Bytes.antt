@@ -7,7 +7,8 @@ use Rattle.laws.proofs.Lists.{run, take_run}
 use Rattle.fips180.specs.Padding.{big_endian, from_big}
 use Rattle.fips180.proofs.Bytes.{byte_last}
 
-listed : (b : List ℕ) (n : ℕ) → length b ≡ n → b ≡ run b 0 0 n
+-- a list by its elements
+pub listed : (b : List ℕ) (n : ℕ) → length b ≡ n → b ≡ run b 0 0 n
 listed b n h = sym (take_all n b (omega arith)) ∙ take_run b 0 n (omega arith)
 
 pub read_four : (b : List ℕ) {x : ℕ} → length b ≡ 4 → x < 2 ^ 32 → x ≡ from_be_bytes w32 b → x % 2 ^ 32 ≡ from_big 0 b
