@@ -2,7 +2,7 @@
 use Prim.Native.Nat.{ℕ, zero, suc, ◌+◌, ◌-◌, ◌*◌, ◌/◌, ◌%◌, ◌<◌, ◌≤◌}
 use mathlib.Core.Path.{◌≡◌, refl, sym, ap, ◌∙◌}
 use mathlib.Core.List.{List, [], ◌∷◌, ◌++◌, append_assoc}
-use native.Mathlib.Nat.{add-zero, add-suc, zero-mul, suc-mul, one-mul, add-mul, mul-le-mul_right, mul-add-mod_self_right, mul-add-div_right}
+use native.Mathlib.Nat.{div-eq_of_lt, add-zero, add-suc, zero-mul, suc-mul, one-mul, add-mul, mul-le-mul_right, mul-add-mod_self_right, mul-add-div_right}
 use native.Mathlib.Omega.{arith}
 use lib.ListN.{length, take, drop, replicate, length-append, length-drop}
 use lib.Seq.{take_all, take-append-le, drop-append-le, drop-append-add}
@@ -58,6 +58,24 @@ module _ (f : Family) where
       ap (hash_value f h (p ++ q)) (add-suc k i) ∙ (λ j. compress f (block_second p q k i e j) (hash_value_append h p q k i e j))
 
   module _ (positive : 0 < f.word_bytes) where
+    -- the whole blocks of a text: none is left, and one is taken off its front
+    pub blocks_none : (h r : List ℕ) → length r < block_bytes f → hash_value f h r (length r / block_bytes f) ≡ h
+    unfolding hash_value
+    blocks_none h r l =
+        let z : length r / block_bytes f ≡ 0 = div-eq_of_lt l in
+        ap (hash_value f h r) z
+
+    pub blocks_next : {t : List ℕ} (h b r : List ℕ) → length b ≡ block_bytes f → t ≡ compress f b h
+        → hash_value f t r (length r / block_bytes f) ≡ hash_value f h (b ++ r) (length (b ++ r) / block_bytes f)
+    unfolding hash_value block
+    blocks_next h b r l e =
+        let one : length b ≡ 1 * block_bytes f = l ∙ sym (one-mul (block_bytes f)) in
+        let n : length (b ++ r) / block_bytes f ≡ 1 + length r / block_bytes f =
+        ap (λ (x : ℕ). x / block_bytes f) (length-append b r ∙ ap (λ (x : ℕ). x + length r) one) ∙ mul-add-div_right (block_positive f positive) 1 (length r) in
+        let first = ap (λ (x : ℕ). take (block_bytes f) (drop x b)) (zero-mul (block_bytes f)) ∙ take_all (block_bytes f) b (omega arith) in
+        ap (λ (x : List ℕ). hash_value f x r (length r / block_bytes f)) (e ∙ ap (λ (x : List ℕ). compress f x h) (sym first))
+        ∙ sym (ap (hash_value f h (b ++ r)) n ∙ hash_value_append h b r 1 (length r / block_bytes f) one)
+
     pub hash_append : (h p m : List ℕ) (k : ℕ) → length p ≡ k * block_bytes f → hash f h (p ++ m) ≡ hash_after f (hash_value f h p k) k m
     unfolding hash hash_after
     hash_append h p m k e =

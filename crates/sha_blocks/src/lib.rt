@@ -14,10 +14,7 @@ use sha_words::Word;
 pub fn whole_blocks<W: Word<B>, const B: usize>(s: &mut [W; 8], m: &[u8])
     ensures { map W.number s.new ≡ hash_value W.family (map W.number s.old) m.now (length m.now / (16 * B)) }
 {
-    let block = 16 * B;
-    for i in 0..m.len() / block {
-        let a = i * block;
-        let e = a + block;
-        block::update(s, &m[a..e]);
+    for b in m.chunks_exact(16 * B) {
+        block::update(s, b);
     }
 }

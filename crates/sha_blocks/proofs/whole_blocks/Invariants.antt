@@ -1,8 +1,13 @@
-use Rattle.std.proofs.Common.{◌*◌, ◌/◌, ◌≤◌, ◌≡◌, length, map}
+use Rattle.std.proofs.Common.{◌/◌, ◌≡◌, length, map}
+use Rattle.fips180.specs.Family.{block_bytes}
 use Rattle.fips180.specs.Hash.{hash_value}
 use Rattle.sha_blocks.proofs.whole_blocks.Given as goal
 
-abbrev pub invariant-loop-i : goal.invariant-loop-i
-invariant-loop-i g l =
+-- what is left of m brings the hash value to where m brings it
+abbrev pub invariant-loop-b : goal.invariant-loop-b
+invariant-loop-b g l =
+    let f = g.W.Word.family in
     let n = g.W.Word.number in
-    (l.i ≤ length l.m / (16 * g.row.B)) × (map n l.s ≡ hash_value g.W.Word.family (map n l.initial.s) l.m l.i)
+    let r = l.b-iterator.rest.now in
+    (l.b-iterator.size ≡ block_bytes f)
+    × (hash_value f (map n l.s) r (length r / block_bytes f) ≡ hash_value f (map n l.initial.s) l.m (length l.m / block_bytes f))
