@@ -16,7 +16,7 @@ fn word<W: Word<B>, const B: usize>(b: &[u8], j: usize) -> W
 }
 
 // Word i of the block b takes place i of the queue.
-#[tactic(auto, using(crate::proofs::Numbers::stored))]
+#[tactic(auto, using(sha_words::proofs::Numbers::stored))]
 pub(crate) fn load_word<W: Word<B>, const B: usize>(w: &mut [W; 16], b: &[u8], i: usize)
     requires { (i < 16) × (length b.now ≡ 16 * B) }
     ensures { map W.number w.new ≡ set (map W.number w.old) i (word_at W.family b.now i) }
@@ -36,7 +36,7 @@ fn next_word<W: Word<B>, const B: usize>(w: &[W; 16], i: usize) -> W
 }
 
 // Word i gives way to the word sixteen places on.
-#[tactic(auto, using(crate::proofs::Numbers::stored))]
+#[tactic(auto, using(sha_words::proofs::Numbers::stored))]
 pub(crate) fn replace_word<W: Word<B>, const B: usize>(w: &mut [W; 16], i: usize)
     requires { i < 16 }
     ensures { map W.number w.new ≡ set (map W.number w.old) i (queue_word W.family i (map W.number w.old)) }

@@ -1,3 +1,5 @@
 pub mod Nested
 pub mod Width
 pub mod Bytes
+pub mod Sizes
+pub mod Numbers

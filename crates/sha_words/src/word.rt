@@ -1,5 +1,5 @@
 // What a family of hashes gives: its word, with the operations of FIPS 180-4, 3.2, and its amounts and constants.
-ghost use Rattle.std.specs.Prelude.{◌≡◌, ◌<◌, ◌^◌, ◌%◌, ◌*◌, ℕ, map};
+ghost use Rattle.std.specs.Prelude.{◌≡◌, ◌<◌, ◌^◌, ◌%◌, ◌*◌, ℕ, [], ◌∷◌, map};
 ghost use Rattle.std.specs.Mem.{type_size};
 ghost use Rattle.std.specs.Int.Bits.{bit_and, bit_xor};
 ghost use Rattle.fips180.specs.Words.{shr, rotr};
@@ -36,8 +36,8 @@ pub trait Word<const BYTES: usize>: Copy + Default + 'static {
         ensures { result ≡ big_endian BYTES (number self) };
 
     // A length of n bytes, in bits, as two words.
-    fn length_words(n: usize) -> [Self; 2]
-        ensures { word_bytes_of family 2 (map number result) ≡ big_endian (length_bytes family) (8 * n) };
+    fn length_words(n: usize) -> (Self, Self)
+        ensures { word_bytes_of family 2 (number result.0 ∷ number result.1 ∷ []) ≡ big_endian (length_bytes family) (8 * n) };
 
     fn big_sigma0_amounts() -> [u32; 3]
         ensures same { amounts_of result ≡ family.Σ₀ }

@@ -51,10 +51,10 @@ impl Word<4> for u32 {
         self.to_be_bytes()
     }
 
-    fn length_words(n: usize) -> [u32; 2] {
+    fn length_words(n: usize) -> (u32, u32) {
         let high = ((n >> 29) % 0x1_0000_0000) as u32;
         let low = (n % 0x2000_0000 * 8) as u32;
-        [high, low]
+        (high, low)
     }
 
     fn big_sigma0_amounts() -> [u32; 3] {

@@ -123,10 +123,10 @@ impl Word<8> for u64 {
         self.to_be_bytes()
     }
 
-    fn length_words(n: usize) -> [u64; 2] {
+    fn length_words(n: usize) -> (u64, u64) {
         let high = (n >> 61) as u64;
         let low = (n % 0x2000_0000_0000_0000 * 8) as u64;
-        [high, low]
+        (high, low)
     }
 
     fn big_sigma0_amounts() -> [u32; 3] {

@@ -1,6 +1,6 @@
 use Rattle.std.proofs.Common.{map, arith, ◌∙◌}
 use Rattle.fips180.proofs.Groups.{group_first, group_next, group_last}
-use Rattle.sha_blocks.proofs.Numbers.{count}
+use Rattle.sha_words.proofs.Numbers.{count}
 use Rattle.sha_blocks.proofs.block.compress.Goals as goal
 
 pub loop-group-init : goal.loop-group-init

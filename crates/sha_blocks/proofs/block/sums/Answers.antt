@@ -2,7 +2,7 @@ use Rattle.std.proofs.Common.{ℕ, refl, rules, ap₂, ◌<◌, length, ◌∙�
 use Rattle.std.proofs.lemmas.List.{length-map}
 use Rattle.fips180.specs.Hash.{plus}
 use Rattle.fips180.proofs.Round.{summed_none, summed_next}
-use Rattle.sha_blocks.proofs.Numbers.{element, stored}
+use Rattle.sha_words.proofs.Numbers.{element, stored}
 use Rattle.sha_blocks.proofs.block.sums.Goals as goal
 
 pub loop-i-init : goal.loop-i-init

@@ -1,5 +1,5 @@
 use Rattle.std.proofs.Common.{ℕ, ◌+◌, ◌-◌, ◌≡◌, List, map, take, drop, ap, arith, ◌∙◌}
-use Rattle.sha_blocks.proofs.Numbers.{part}
+use Rattle.sha_words.proofs.Numbers.{part}
 use Rattle.sha_blocks.proofs.rounds.constants_from.Goals as goal
 
 pub returns-clause-values : goal.returns-clause-values

@@ -1,6 +1,6 @@
 use Rattle.std.proofs.Common.{◌+◌, ◌%◌, arith}
 use Rattle.fips180.specs.Groups.{queue_word}
-use Rattle.sha_blocks.proofs.Numbers.{element}
+use Rattle.sha_words.proofs.Numbers.{element}
 use Rattle.sha_blocks.proofs.schedule.next_word.Goals as goal
 
 pub returns : goal.returns

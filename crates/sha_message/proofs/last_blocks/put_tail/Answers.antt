@@ -1,0 +1,16 @@
+use Rattle.std.proofs.Common.{ℕ, ◌-◌, ◌%◌, List, length, drop, ap, rules, ◌∙◌}
+use Rattle.octets.specs.Octets.{padded}
+use Rattle.octets.proofs.Buffers.{replaced_fits}
+use Rattle.fips180.proofs.LastBlocks.{tail_put}
+use Rattle.sha_words.proofs.Sizes.{word_positive, block_size}
+use Rattle.sha_message.proofs.last_blocks.put_tail.Goals as goal
+
+pub returns : goal.returns
+returns g c =
+    let m : List ℕ = c.args.m.now in
+    let size = g.met.W.Word.sizes in
+    let b = block_size size in
+    let tail : List ℕ = c.remainder-tail.result.now in
+    tail_put g.W.Word.family (word_positive size) m
+    (c.remainder-tail.ensures ∙ c.chunks_exact.ensures.remainder ∙ ap (λ (n : ℕ). drop (length m - length m % n) m) b)
+    (c.replace.ensures ∙ replaced_fits c.args.out.now tail (search rules) ∙ ap (λ (n : ℕ). padded n tail) (c.requires ∙ b))
