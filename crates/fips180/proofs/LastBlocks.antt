@@ -7,7 +7,7 @@ use native.Mathlib.Nat.{eq-or-lt_of_le, mod-lt, div-add-mod', suc-mul, add-zero}
 use native.Mathlib.Omega.{arith}
 use lib.Arith.{digits_div}
 use lib.ListN.{length, take, drop, get_or, set, replicate, length-append, length-drop, length-replicate, get_or-append}
-use lib.Seq.{length-take-le, get_or-take, get_or-drop, get_or_at, get_or-append-add, append_snoc, set_at, take_all, ext_get_or}
+use lib.Seq.{length-take-le, get_or-take, get_or-drop, get_or_at, get_or-append-add, append_snoc, set_at, ext_get_or}
 use Rattle.octets.specs.Octets.{zeros}
 use Rattle.octets.proofs.Buffers.{length_padded, zeros_byte}
 use Rattle.fips180.specs.Family.{Family, block_bytes, length_bytes}
@@ -18,7 +18,7 @@ use Rattle.fips180.specs.LastBlocks.{tail_block, with_length}
 use Rattle.laws.proofs.Lists.{before_or_not}
 use Rattle.fips180.proofs.Bytes.{length_big}
 use Rattle.fips180.proofs.Padding.{length_pad, pad_message, pad_one, pad_zero, pad_length, pad_block}
-use Rattle.fips180.proofs.Blocks.{block_positive, zero_count_fills, length_block, hash_value_more}
+use Rattle.fips180.proofs.Blocks.{block_positive, zero_count_fills, length_block}
 
 module _ (f : Family) (positive : 0 < f.word_bytes) where
   -- two words of sixteen

@@ -7,7 +7,7 @@ use native.Mathlib.Numerals.{add-one}
 use native.Mathlib.Omega.{arith}
 use lib.ListN.{length, take, drop, get_or}
 use lib.Pow.{shr-shr, field, mod-mod-pow}
-use lib.Seq.{take_all, drop-length}
+use lib.Seq.{drop-length}
 use Rattle.octets.specs.Octets.{pasted}
 use Rattle.octets.proofs.Buffers.{pasted_fits, length_pasted, take_pasted}
 use Rattle.fips180.specs.Family.{Family, block_bytes, length_bytes}

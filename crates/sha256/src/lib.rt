@@ -2,14 +2,14 @@
 #![tactic(auto)]
 
 mod initial_hash_value;
-mod message;
 
 ghost use Rattle.std.specs.Prelude.{◌≡◌, ◌++◌};
 ghost use Rattle.refusal.specs.Steps.{reply_of};
 ghost use Rattle.sha256.specs.Sha256.{sha256_reply};
 
 use refusal::Refusal;
-use sha256_blocks::whole_blocks;
+use sha_blocks::whole_blocks;
+use sha_message::digest;
 
 // From this length on a message has no digest: its length in bits has no place in the padding.
 pub const TOO_LONG: usize = 0x2000_0000_0000_0000;
@@ -22,8 +22,7 @@ pub fn sha256(message: &[u8]) -> Result<[u8; 32], Refusal>
     if message.len() >= TOO_LONG {
         return Err(Refusal::BadLength);
     }
-    let mut h = initial_hash_value::SHA256;
-    Ok(message::digest(&mut h, 0, message))
+    Ok(digest(initial_hash_value::SHA256, message.len(), message))
 }
 
 // The digest of a block followed by a message, which need not lie together.
@@ -35,5 +34,5 @@ pub fn sha256_after_block(block: [u8; 64], message: &[u8]) -> Result<[u8; 32], R
     }
     let mut h = initial_hash_value::SHA256;
     whole_blocks(&mut h, &block);
-    Ok(message::digest(&mut h, 1, message))
+    Ok(digest(h, 64 + message.len(), message))
 }

@@ -2,26 +2,22 @@
 #![tactic(auto)]
 
 mod initial_hash_value;
-mod message;
 
 ghost use Rattle.std.specs.Prelude.{◌≡◌};
 ghost use Rattle.fips180.specs.Sha512.{«sha384», «sha512»};
+
+use sha_message::digest;
 
 // The first 48 bytes of the hash value.
 pub fn sha384(message: &[u8]) -> [u8; 48]
     ensures { result ≡ «sha384» message.now }
 {
-    let mut h = initial_hash_value::SHA384;
-    let whole = message::digest(&mut h, message);
-    let mut out = [0u8; 48];
-    octets::put(&mut out, 0, &whole[..48]);
-    out
+    digest(initial_hash_value::SHA384, message.len(), message)
 }
 
 // All 64.
 pub fn sha512(message: &[u8]) -> [u8; 64]
     ensures { result ≡ «sha512» message.now }
 {
-    let mut h = initial_hash_value::SHA512;
-    message::digest(&mut h, message)
+    digest(initial_hash_value::SHA512, message.len(), message)
 }

@@ -35,7 +35,13 @@ fn round_with<W: Word<B>, const B: usize>(s: [W; 8], k: &[W], w: &[W; 16], i: us
 }
 
 // The same, with word i of the block b in place i. It says the block's length again, so that the proof of the next round finds it near.
-fn first_round<W: Word<B>, const B: usize>(s: [W; 8], k: &[W], b: &[u8], w: &mut [W; 16], i: usize) -> [W; 8]
+fn first_round<W: Word<B>, const B: usize>(
+    s: [W; 8],
+    k: &[W],
+    b: &[u8],
+    w: &mut [W; 16],
+    i: usize,
+) -> [W; 8]
     requires { (i < 16) × (length k.now ≡ 16) × (length b.now ≡ 16 * B) }
     ensures block { length b.now ≡ 16 * B }
     ensures queue { map W.number w.new ≡ set (map W.number w.old) i (word_at W.family b.now i) }
@@ -57,7 +63,11 @@ fn next_round<W: Word<B>, const B: usize>(s: [W; 8], k: &[W], w: &mut [W; 16], i
 
 // The first sixteen rounds, over the words of the block b. Straight-line, so that indices are constants and the working variables stay in registers; each word
 // is made just before its round, so that the two run side by side.
-pub(crate) fn first_sixteen_rounds<W: Word<B>, const B: usize>(s: [W; 8], b: &[u8], w: &mut [W; 16]) -> [W; 8]
+pub(crate) fn first_sixteen_rounds<W: Word<B>, const B: usize>(
+    s: [W; 8],
+    b: &[u8],
+    w: &mut [W; 16],
+) -> [W; 8]
     requires { length b.now ≡ 16 * B }
     ensures queue { map W.number w.new ≡ words_of W.family 16 b.now }
     ensures state { map W.number result ≡ rounds_from W.family 0 (map W.number w.new) (map W.number s) 16 }
@@ -82,7 +92,11 @@ pub(crate) fn first_sixteen_rounds<W: Word<B>, const B: usize>(s: [W; 8], b: &[u
 }
 
 // Sixteen rounds from round t on, over the next sixteen words, in the same way.
-pub(crate) fn next_sixteen_rounds<W: Word<B>, const B: usize>(s: [W; 8], t: usize, w: &mut [W; 16]) -> [W; 8]
+pub(crate) fn next_sixteen_rounds<W: Word<B>, const B: usize>(
+    s: [W; 8],
+    t: usize,
+    w: &mut [W; 16],
+) -> [W; 8]
     requires { t + 16 ≤ W.family.rounds }
     ensures queue { map W.number w.new ≡ advanced W.family 16 (map W.number w.old) }
     ensures state { map W.number result ≡ rounds_from W.family t (map W.number w.new) (map W.number s) 16 }

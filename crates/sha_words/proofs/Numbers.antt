@@ -1,5 +1,5 @@
 -- Lists of words, as the numbers of the words: elements, stores and parts.
-use Rattle.std.proofs.Common.{ℕ, ◌+◌, ◌<◌, ◌≡◌, List, [], ◌∷◌, length, map, get_or, set, take, drop, ap, sym, arith, ◌∙◌}
+use Rattle.std.proofs.Common.{ℕ, ◌<◌, ◌≡◌, List, [], ◌∷◌, length, map, get_or, set, take, drop, ap, sym, arith, ◌∙◌}
 use Rattle.std.proofs.lemmas.List.{get_or-map, map-set, length-map, take-map, drop-map}
 use Rattle.sha_words.proofs.Bytes.{listed}
 

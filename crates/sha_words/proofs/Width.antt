@@ -1,5 +1,5 @@
 -- What the operations of an integer of w bits are, of words as numbers modulo 2 ^ w.
-use Rattle.std.proofs.Common.{ℕ, ◌+◌, ◌-◌, ◌*◌, ◌/◌, ◌%◌, ◌<◌, ◌≤◌, ◌^◌, ◌≡◌, ap, sym, arith, ◌∙◌}
+use Rattle.std.proofs.Common.{ℕ, ◌-◌, ◌*◌, ◌/◌, ◌%◌, ◌<◌, ◌^◌, ◌≡◌, ap, sym, arith, ◌∙◌}
 use native.Mathlib.Nat.{mod-eq_of_lt}
 use lib.Bits.{bit_or}
 use lib.Pow.{shr_le}

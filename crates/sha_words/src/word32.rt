@@ -48,7 +48,7 @@ impl Word<4> for u32 {
     }
 
     fn to_be_bytes(self) -> [u8; 4] {
-        self.to_be_bytes()
+        u32::to_be_bytes(self)
     }
 
     fn length_words(n: usize) -> (u32, u32) {

@@ -120,7 +120,7 @@ impl Word<8> for u64 {
     }
 
     fn to_be_bytes(self) -> [u8; 8] {
-        self.to_be_bytes()
+        u64::to_be_bytes(self)
     }
 
     fn length_words(n: usize) -> (u64, u64) {

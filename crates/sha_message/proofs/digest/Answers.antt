@@ -1,4 +1,4 @@
-use Rattle.std.proofs.Common.{ℕ, ◌+◌, ◌*◌, ◌≤◌, List, length, take, take-take, ap, sym, arith, rules, ◌∙◌}
+use Rattle.std.proofs.Common.{ℕ, ◌+◌, ◌*◌, ◌≤◌, List, length, take, take-take, ap, sym, rules, ◌∙◌}
 use Rattle.octets.proofs.Parts.{bytes_at_whole}
 use Rattle.fips180.specs.Hash.{word_bytes_of}
 use Rattle.sha_message.proofs.digest.Goals as goal

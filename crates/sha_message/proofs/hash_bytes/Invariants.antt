@@ -1,4 +1,4 @@
-use Rattle.std.proofs.Common.{◌≡◌, length, map}
+use Rattle.std.proofs.Common.{map}
 use Rattle.fips180.proofs.Stores.{Written}
 use Rattle.sha_message.proofs.hash_bytes.Given as goal
 

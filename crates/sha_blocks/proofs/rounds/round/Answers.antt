@@ -1,5 +1,4 @@
 use Rattle.std.proofs.Common.{rules, ap, ◌∙◌}
-use Rattle.fips180.specs.Family.{word_bits}
 use Rattle.fips180.specs.Hash.{round}
 use Rattle.fips180.proofs.Round.{t1_is, t2_is, step_is}
 use Rattle.sha_words.proofs.Numbers.{eight}
