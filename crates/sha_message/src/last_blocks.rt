@@ -1,5 +1,5 @@
 // FIPS 180-4, 5.1 and 5.2: the last blocks of the padded message, one or two, put together.
-ghost use Rattle.std.specs.Prelude.{◌≡◌, ◌+◌, ◌*◌, ◌/◌, ℕ, List, length, map};
+ghost use Rattle.std.specs.Prelude.{◌≡◌, ◌+◌, ◌*◌, ◌/◌, ℕ, List, length, replicate, map};
 ghost use Rattle.fips180.specs.Hash.{«compress», «hash_value»};
 ghost use Rattle.fips180.specs.Continued.{hash_after};
 ghost use Rattle.fips180.specs.LastBlocks.{tail_block, with_length};
@@ -7,13 +7,13 @@ ghost use Rattle.fips180.specs.LastBlocks.{tail_block, with_length};
 use sha_blocks::whole_blocks;
 use sha_words::Word;
 
-// The bytes past the whole blocks, the byte 0x80 and zeros.
+// The bytes past the whole blocks and the byte 0x80, into a block of zeros.
 fn put_tail<W: Word<B>, const B: usize>(m: &[u8], out: &mut [u8])
-    requires { length out.old ≡ 16 * B }
+    requires { out.old ≡ replicate (16 * B) 0 }
     ensures { out.new ≡ tail_block W.family m.now }
 {
     let tail = m.chunks_exact(16 * B).remainder();
-    octets::replace(out, tail);
+    octets::put(out, 0, tail);
     out[tail.len()] = 0x80;
 }
 
@@ -28,9 +28,9 @@ fn last_block<W: Word<B>, const B: usize>(s: &mut [W; 8], b: &mut [u8], n: usize
     whole_blocks(s, b);
 }
 
-// The hash value s, over the whole blocks of m, brought forward by the rest, which is put together in b.
+// The hash value s, over the whole blocks of m, brought forward by the rest, which is put together in the block b of zeros.
 fn last_blocks<W: Word<B>, const B: usize>(s: &mut [W; 8], n: usize, m: &[u8], b: &mut [u8])
-    requires { length b.old ≡ 16 * B }
+    requires { b.old ≡ replicate (16 * B) 0 }
     ensures { (h : List ℕ) (k : ℕ) → map W.number s.old ≡ «hash_value» W.family h m.now (length m.now / (16 * B)) → n ≡ k * (16 * B) + length m.now
         → map W.number s.new ≡ hash_after W.family h k m.now }
 {
