@@ -1,63 +1,26 @@
--- A call's answer by the tests that the code makes of it. A signed number is tested by its bits, `of_z w z`, and read back as `to_z w (of_z w z)`.
-use Prim.Native.Nat.{ℕ, zero, suc, ◌≤◌, min}
-use mathlib.Core.Path.{◌≡◌, refl, sym, ap, ◌∙◌}
-use mathlib.Core.Bool.{Bool, true, false, true≢false}
-use native.Mathlib.Omega.{arith}
-use borrow.Author.Tests.{ne_eqb, le-ltb}
-use lib.IntN.{ℤ, pos, negsuc, nat_abs}
-use lib.Signed.{lt_z, non_neg}
-use lib.Dec.{T}
-use mir.Syntax.{w32}
-use mir.Val.{to_z, of_z, SFits}
-use mir.ValLaws.{to_z-of_z}
+-- A call moves no more bytes than it was lent.
+use Rattle.std.proofs.Common.{ℕ, zero, suc, ◌≤◌, ◌≡◌, refl, ap, arith, Result, Ok, Err}
+use Rattle.std.specs.IoError.{error_kind}
+use Rattle.std.specs.declared.io.Error.{Error}
+use Rattle.std.specs.declared.io.ErrorKind.{ErrorKind}
 use Rattle.whole_io.specs.declared.Moved.{Moved}
-use Rattle.whole_io.specs.declared.Moved.TheVariants.{Bytes, Nothing, Interrupted, Failed}
-use Rattle.whole_io.specs.Calls.{is_eintr, failed_by, moved_by}
-
-pub is_eintr_law : (e : ℤ) → SFits w32 e → of_z w32 e ≡ 4 → is_eintr e ≡ true
-is_eintr_law e fits h = ap is_eintr (sym (to_z-of_z w32 e fits) ∙ ap (to_z w32) h)
-
-pub not_eintr : (e : ℤ) → (of_z w32 e ≡ 4 → ⊥) → is_eintr e ≡ false
-not_eintr (pos n) h = ne_eqb n 4 (λ k. h (ap (λ (m : ℕ). of_z w32 (pos m)) k))
-not_eintr (negsuc n) h = refl
-
-pub negative : (got error : ℤ) (room : ℕ) → lt_z got (pos 0) ≡ true → failed_by (is_eintr error) ≡ moved_by got error room
-unfolding moved_by
-negative (pos n) error room h = absurd (true≢false (sym h ∙ le-ltb n 0 (omega arith)))
-negative (negsuc n) error room h = refl
-
-pub not_negative : (got : ℤ) → lt_z got (pos 0) ≡ false → T (non_neg got)
-not_negative (pos n) h = tt
-not_negative (negsuc n) h = absurd (true≢false h)
-
-pub moved_nothing : (got error : ℤ) (room : ℕ) → T (non_neg got) → nat_abs got ≡ 0 → Nothing ≡ moved_by got error room
-unfolding moved_by
-moved_nothing (pos zero) error room t h = refl
-moved_nothing (pos (suc n)) error room t h = absurd (omega arith)
-moved_nothing (negsuc n) error room t h = absurd t
-
-pub moved_bytes : (got error : ℤ) (room : ℕ) → T (non_neg got) → (nat_abs got ≡ 0 → ⊥) → Bytes (min (nat_abs got) room) ≡ moved_by got error room
-unfolding moved_by
-moved_bytes (pos zero) error room t h = absurd (h refl)
-moved_bytes (pos (suc n)) error room t h = refl
-moved_bytes (negsuc n) error room t h = absurd t
+use Rattle.whole_io.specs.declared.Moved.TheVariants.{Bytes}
+use Rattle.whole_io.specs.Calls.{failed_by, moved_by}
 
 -- how many bytes a call moved
 abbrev bytes_moved : Moved → ℕ
 bytes_moved (Bytes n) = n
-bytes_moved Nothing = 0
-bytes_moved Interrupted = 0
-bytes_moved Failed = 0
+bytes_moved m = 0
 
-failed_none : (t : Bool) → bytes_moved (failed_by t) ≡ 0
-failed_none true = refl
-failed_none false = refl
+failed_none : (kind : ErrorKind) (e : Error) → bytes_moved (failed_by kind e) ≡ 0
+failed_none ErrorKind.Interrupted e = refl
+failed_none kind e = refl
 
-moved_most : (got error : ℤ) (room : ℕ) → bytes_moved (moved_by got error room) ≤ room
+moved_most : (call : Result ℕ Error) (room : ℕ) → bytes_moved (moved_by call room) ≤ room
 unfolding moved_by
-moved_most (pos zero) error room = omega arith
-moved_most (pos (suc n)) error room = omega arith
-moved_most (negsuc n) error room = omega (arith, failed_none (is_eintr error))
+moved_most (Ok zero) room = omega arith
+moved_most (Ok (suc n)) room = omega arith
+moved_most (Err e) room = omega (arith, failed_none (error_kind e) e)
 
-pub bytes_most : (got error : ℤ) (room n : ℕ) → moved_by got error room ≡ Bytes n → n ≤ room
-bytes_most got error room n e = omega (arith, ap bytes_moved e, moved_most got error room)
+pub bytes_most : (call : Result ℕ Error) (room n : ℕ) → Bytes n ≡ moved_by call room → n ≤ room
+bytes_most call room n e = omega (arith, ap bytes_moved e, moved_most call room)

@@ -1,56 +1,49 @@
--- What a reading's step says of the next one.
-use Prim.Native.Nat.{ℕ, zero, suc, ◌+◌, ◌-◌, ◌≤◌, ◌<◌}
-use mathlib.Core.Path.{◌≡◌, refl, sym, ap, subst}
-use mathlib.Core.Bool.{Bool, true, false}
-use mathlib.Core.Option.{Option, none, some}
-use native.Mathlib.Omega.{arith}
-use lib.IntN.{ℤ, pos, negsuc}
-use Rattle.whole_io.specs.declared.Moved.{Moved}
-use Rattle.whole_io.specs.declared.Reading.{Reading}
-use Rattle.whole_io.specs.declared.Step.{Step}
-use Rattle.whole_io.specs.declared.Step.TheVariants.{Again, Over}
-use Rattle.whole_io.specs.Calls.{is_eintr, failed_by, moved_by}
-use Rattle.whole_io.specs.Transfers.{step_after, bytes_read, AtMost}
+-- What a turn of a loop over len bytes says of its call, by whether the loop goes on.
+use Rattle.std.proofs.Common.{ℕ, zero, suc, ◌+◌, ◌-◌, ◌≤◌, ◌<◌, ◌≡◌, refl, sym, ap, min, arith, Result, Ok, Err, IfOk, MatchResult, Continue, Break}
+use native.Mathlib.Nat.{min-eq_left}
+use Rattle.std.specs.IoError.{error_kind}
+use Rattle.std.specs.declared.io.Error.{Error}
+use Rattle.std.specs.declared.io.ErrorKind.{ErrorKind}
+use Rattle.whole_io.specs.Calls.{failed_by, moved_by}
+use Rattle.whole_io.specs.Transfers.{step_after}
 
--- a turn of a loop over len bytes that goes on: the next call is lent fewer of them, or may be interrupted less often
-pub record Nearer (len done left d l : ℕ) : Type 0 where
-  pub within : d ≤ len
-  pub nearer : len - d + l < len - done + left
+-- the bytes that a call moved are done, and one that moved none was interrupted
+abbrev pub GoesOn : ℕ → ℕ → Result ℕ Error → ℕ × ℕ → Type 0
+GoesOn done left call next = MatchResult call (λ n. (0 < n) × (next.0 ≡ done + n) × (next.1 ≡ left)) (λ _. (next.0 ≡ done) × (next.1 + 1 ≡ left))
 
--- what holds of a step: one that goes on is nearer to the end, and what it answers at the end is within the buffer
-abbrev pub Sound : ℕ → ℕ → ℕ → Step → Type 0
-Sound len done left (Again d l) = Nearer len done left d l
-Sound len done left (Over reading) = AtMost len (bytes_read reading)
+-- a call that moved nothing ends it, and so does one that failed
+abbrev pub Ends : ℕ → Result ℕ Error → Result ℕ Error → Type 0
+Ends done call reading = MatchResult call (λ n. (n ≡ 0) × (reading ≡ Ok done)) (λ e. reading ≡ Err e)
 
-failed_sound : (t : Bool) (len done left : ℕ) → done < len → Sound len done left (step_after (failed_by t) done left)
+failed_on : (kind : ErrorKind) (e : Error) (done left : ℕ) (next : ℕ × ℕ) → Continue next ≡ step_after (failed_by kind e) done left → (next.0 ≡ done) × (next.1 + 1 ≡ left)
 unfolding step_after
-failed_sound true len done zero h = tt
-failed_sound true len done (suc left) h = record { within = omega arith; nearer = omega arith }
-failed_sound false len done left h = tt
+failed_on ErrorKind.Interrupted e done zero next h = absurd cc
+failed_on ErrorKind.Interrupted e done (suc left) next h = let k : next ≡ (done, left) = cc in (ap (λ (p : ℕ × ℕ). p.0) k, omega (arith, ap (λ (p : ℕ × ℕ). p.1) k))
+failed_on kind e done left next h = absurd cc
 
-pub sound : (got error : ℤ) (len done left : ℕ) → done < len → Sound len done left (step_after (moved_by got error (len - done)) done left)
+pub goes_on : (call : Result ℕ Error) (room done left : ℕ) (next : ℕ × ℕ) → IfOk call (λ n. n ≤ room) → Continue next ≡ step_after (moved_by call room) done left → GoesOn done left call next
 unfolding moved_by step_after
-sound (pos zero) error len done left h = omega arith
-sound (pos (suc n)) error len done left h = record { within = omega arith; nearer = omega arith }
-sound (negsuc n) error len done left h = failed_sound (is_eintr error) len done left h
+goes_on (Ok zero) room done left next b h = absurd cc
+goes_on (Ok (suc n)) room done left next b h = let m : suc n ≡ min (suc n) room = sym (min-eq_left b) in let k : next ≡ (done + suc n, left) = cc in (omega arith, ap (λ (p : ℕ × ℕ). p.0) k, ap (λ (p : ℕ × ℕ). p.1) k)
+goes_on (Err e) room done left next b h = failed_on (error_kind e) e done left next h
 
-at_most : {m n : ℕ} → m ≤ n → (o : Option ℕ) → AtMost m o → AtMost n o
-at_most h (some k) l = omega arith
-at_most h none l = tt
-
--- the step that the code made of a call, by the case that the match found
-module _ (got error : ℤ) (len done left : ℕ) (h : done < len) where
-  pub again_nearer : (d l : ℕ) → Again d l ≡ step_after (moved_by got error (len - done)) done left → Nearer len done left d l
-  again_nearer d l e = subst (Sound len done left) (sym e) (sound got error len done left h)
-
-  pub over_within : (reading : Reading) (limit : ℕ) → len ≤ limit → Over reading ≡ step_after (moved_by got error (len - done)) done left → AtMost limit (bytes_read reading)
-  over_within reading limit k e = at_most k (bytes_read reading) (subst (Sound len done left) (sym e) (sound got error len done left h))
-
--- how many bytes a reading gave, by its case
-pub counted : {limit n : ℕ} (r : Reading) → r ≡ Reading.Whole n → AtMost limit (bytes_read r) → n ≤ limit
-counted {limit} r e h = subst (λ (x : Reading). AtMost limit (bytes_read x)) e h
-
-pub interrupted_again : (done left : ℕ) → (left ≡ 0 → ⊥) → step_after Moved.Interrupted done left ≡ Again done (left - 1)
+failed_ends : (kind : ErrorKind) (e : Error) (done left : ℕ) (reading : Result ℕ Error) → Break reading ≡ step_after (failed_by kind e) done left → reading ≡ Err e
 unfolding step_after
-interrupted_again done zero h = absurd (h refl)
-interrupted_again done (suc left) h = let e : left ≡ suc left - 1 = omega arith in ap (Again done) e
+failed_ends ErrorKind.Interrupted e done zero reading h = cc
+failed_ends ErrorKind.Interrupted e done (suc left) reading h = absurd cc
+failed_ends kind e done left reading h = cc
+
+pub ends : (call : Result ℕ Error) (room done left : ℕ) (reading : Result ℕ Error) → Break reading ≡ step_after (moved_by call room) done left → Ends done call reading
+unfolding moved_by step_after
+ends (Ok zero) room done left reading h = (refl, cc)
+ends (Ok (suc n)) room done left reading h = absurd cc
+ends (Err e) room done left reading h = failed_ends (error_kind e) e done left reading h
+
+-- a turn that goes on is nearer to the end: the next call is lent fewer of the bytes, or may be interrupted less often
+pub record Nearer (len done left : ℕ) (next : ℕ × ℕ) : Type 0 where
+  pub within : next.0 ≤ len
+  pub nearer : len - next.0 + next.1 < len - done + left
+
+pub goes_nearer : (len done left : ℕ) (call : Result ℕ Error) (next : ℕ × ℕ) → done ≤ len → IfOk call (λ n. n ≤ len - done) → GoesOn done left call next → Nearer len done left next
+goes_nearer len done left (Ok n) next h b on = record { within = omega (arith, on.1); nearer = omega (arith, on.0, on.1, on.2) }
+goes_nearer len done left (Err e) next h b on = record { within = omega (arith, on.0); nearer = omega (arith, on.0, on.1) }

@@ -1,13 +1,24 @@
-use Rattle.std.proofs.Common.{rules, refl}
-use Rattle.whole_io.proofs.KnownBytes.{write_again}
-use Rattle.whole_io.proofs.TransferLaws.{again_nearer}
+use Rattle.std.proofs.Common.{rules, ◌-◌, ◌≤◌, length, IfOk}
+use Rattle.whole_io.proofs.KnownBytes.{write_again, write_over}
+use Rattle.whole_io.proofs.TransferLaws.{GoesOn, goes_on, goes_nearer}
 use Rattle.whole_io.proofs.write_whole.Goals as goal
 
 pub loop-done-smaller : goal.loop-done-smaller
-loop-done-smaller g c = (again_nearer _ _ _ _ _ c.loop-done-test.true _ _ c.in-Again.ensures).nearer
+loop-done-smaller g c =
+    let fits : IfOk c.write.result (λ n. n ≤ length c.args.bytes.now - c.loop-done.done) = search rules in
+    (goes_nearer _ _ _ _ _ c.loop-done.invariant.within fits (goes_on _ _ _ _ _ fits c.in-Continue.ensures)).nearer
 
 pub loop-done-preserved : goal.loop-done-preserved
-loop-done-preserved g c = record {
-  within = (again_nearer _ _ _ _ _ c.loop-done-test.true _ _ c.in-Again.ensures).within;
-  took = write_again _ _ _ _ _ _ _ _ _ c.loop-done-test.true refl refl c.loop-done.invariant.took c.write.result c.answer_of-put.result.0 c.answer_of-put.ensures.moved c.answer_of-put.ensures.failed (search rules) c.write.ensures.bound c.write.ensures.bytes _ _ c.in-Again.ensures;
-}
+loop-done-preserved g c =
+    let fits : IfOk c.write.result (λ n. n ≤ length c.args.bytes.now - c.loop-done.done) = search rules in
+    let on : GoesOn _ _ c.write.result c.in-Continue.next = goes_on _ _ _ _ _ fits c.in-Continue.ensures in
+    record {
+      within = (goes_nearer _ _ _ _ _ c.loop-done.invariant.within fits on).within;
+      took = write_again _ _ _ _ _ c.loop-done.invariant.took _ _ _ c.write.ensures.bytes on;
+    }
+
+pub returns-in-Break-Ok-clause-failed : goal.returns-in-Break-Ok-clause-failed
+returns-in-Break-Ok-clause-failed g c = write_over _ _ _ _ _ c.loop-done.invariant.took _ c.write.ensures.bytes
+
+pub returns-in-Break-Err-clause-failed : goal.returns-in-Break-Err-clause-failed
+returns-in-Break-Err-clause-failed g c = write_over _ _ _ _ _ c.loop-done.invariant.took _ c.write.ensures.bytes
