@@ -86,6 +86,7 @@ pub fn read_whole<R: Read>(from: &mut R, buffer: &mut [u8]) -> io::Result<usize>
 }
 
 // Writes all of the bytes. Where it fails, some of them may have been written. Where there is nothing to write, nothing fails.
+#[tactic(auto, using(crate::proofs::KnownBytes::write_over))]
 pub fn write_whole<W: Write>(to: &mut W, bytes: &[u8]) -> io::Result<()>
     ensures nothing { length bytes.now ≡ 0 → IsOk result }
     ensures bytes { OnOk result (Appends (W.contents to.old) (W.contents to.new) bytes.now) }

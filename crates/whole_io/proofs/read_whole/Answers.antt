@@ -1,4 +1,5 @@
 use Rattle.std.proofs.Common.{rules, arith, ◌-◌, ◌≤◌, length, IfOk}
+use borrow.Rule.Slice.PartMut.{put_mid}
 use Rattle.whole_io.proofs.KnownBytes.{Read, read_again, read_over}
 use Rattle.whole_io.proofs.TransferLaws.{GoesOn, goes_on, goes_nearer, ends}
 use Rattle.whole_io.proofs.read_whole.Goals as goal
@@ -20,6 +21,7 @@ loop-done-preserved g c =
 
 pub returns-in-Break : goal.returns-in-Break
 returns-in-Break g c =
-    let r : Read _ _ _ c.in-Break.reading =
+    let left = length c.loop-done.buffer - c.loop-done.done in
+    let r : Read (g.R.Read.remaining c.args.from.now) (g.R.Read.remaining c.read.new.self) (put_mid c.loop-done.done left c.loop-done.buffer c.read.new.buf) c.in-Break.reading =
     read_over _ _ _ _ _ _ _ (omega arith) c.loop-done.invariant.gave (search rules) (search rules) _ _ c.read.ensures.bound c.read.ensures.bytes (ends _ _ _ _ _ c.in-Break.ensures) in
     record { count = r.count; length = search rules; bytes = r.bytes; end = r.end; nothing = search rules; failed = r.failed }

@@ -1,5 +1,5 @@
 use Rattle.std.proofs.Common.{rules, ◌-◌, ◌≤◌, length, IfOk}
-use Rattle.whole_io.proofs.KnownBytes.{write_again, write_over}
+use Rattle.whole_io.proofs.KnownBytes.{write_again}
 use Rattle.whole_io.proofs.TransferLaws.{GoesOn, goes_on, goes_nearer}
 use Rattle.whole_io.proofs.write_whole.Goals as goal
 
@@ -16,9 +16,3 @@ loop-done-preserved g c =
       within = (goes_nearer _ _ _ _ _ c.loop-done.invariant.within fits on).within;
       took = write_again _ _ _ _ _ c.loop-done.invariant.took _ _ _ c.write.ensures.bytes on;
     }
-
-pub returns-in-Break-Ok-clause-failed : goal.returns-in-Break-Ok-clause-failed
-returns-in-Break-Ok-clause-failed g c = write_over _ _ _ _ _ c.loop-done.invariant.took _ c.write.ensures.bytes
-
-pub returns-in-Break-Err-clause-failed : goal.returns-in-Break-Err-clause-failed
-returns-in-Break-Err-clause-failed g c = write_over _ _ _ _ _ c.loop-done.invariant.took _ c.write.ensures.bytes
