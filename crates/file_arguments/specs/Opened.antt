@@ -1,8 +1,6 @@
 -- What opening a file answers: the file, or an error where there is none.
-use Rattle.std.specs.Prelude.{ℕ, ◌≡◌, Result, Ok, Err}
-use Rattle.std.proofs.Math.Option.{Option, none}
+use Rattle.std.specs.Prelude.{ℕ, ◌≡◌, Result, Err, IfErr}
 
--- of a file that wasn't opened there are no bytes to judge, which isn't a file of no bytes
-abbrev pub NoneUnopened : {F E : Type 0} → Result F E → Option ℕ → Type 0
-NoneUnopened (Ok file) bytes = Unit {0}
-NoneUnopened (Err e) bytes = bytes ≡ none
+-- of a file that wasn't opened there are no bytes to judge, which isn't a file of no bytes: the reading has failed as the opening has
+abbrev pub NoneUnopened : {F E : Type 0} → Result F E → Result ℕ E → Type 0
+NoneUnopened opened reading = IfErr opened (λ e. reading ≡ Err e)
