@@ -1,12 +1,13 @@
 // A program's report on standard output, written part by part. The first part that can't be written gets a line on standard error, and no part is written after it.
 #![tactic(auto)]
 
-ghost use Rattle.std.specs.Prelude.{◌≡◌, true, ◌&&◌, length};
-ghost use Rattle.report.specs.Report.{StaysFailed};
+ghost use Rattle.std.specs.Prelude.{◌≡◌, true, ◌&&◌, length, is_ok, IsOk, OnOk};
+ghost use Rattle.std.specs.Fmt.{WritesInCalls};
+ghost use Rattle.report.specs.Report.{StaysFailed, example_line};
 
-use refusal::Refusal;
-use std::fs;
 use std::fs::OpenOptions;
+use std::io::ErrorKind;
+use std::{fmt, fs, io};
 
 // Whether every part so far was written whole.
 #[derive(Drop)]
@@ -18,25 +19,19 @@ pub struct Report {
 // Standard output by its name.
 const OUTPUT: &str = "/dev/stdout";
 
-// Linux's errno of syncing what can't be synced.
-const EINVAL: i32 = 22;
-
-// Has the system store what was written, where standard output is a file, and answers 0, or errno where it can't. Of a pipe, a terminal or a file that
-// mustn't be opened again there is nothing more to learn.
-fn store_output(rt: &HostRuntime) -> i32 {
+// Has the system store what was written, where standard output is a file. Of a pipe, a terminal or a file that mustn't be opened again there is nothing more
+// to learn, nor of one that can't be stored.
+fn store_output(rt: &HostRuntime) -> io::Result<()> {
     match fs::metadata(rt, OUTPUT) {
         Ok(output) if output.is_file() => {}
-        _ => return 0,
+        _ => return Ok(()),
     }
     let Ok(file) = OpenOptions::new().write(true).open(rt, OUTPUT) else {
-        return 0;
+        return Ok(());
     };
     match file.sync_all() {
-        Ok(()) => 0,
-        Err(e) => match whole_io::errno_of(&e) {
-            EINVAL => 0,
-            error => error,
-        },
+        Err(e) if e.kind() == ErrorKind::InvalidInput => Ok(()),
+        synced => synced,
     }
 }
 
@@ -47,106 +42,55 @@ impl Report {
         Report { ok: true, rt }
     }
 
-    pub fn text(self, bytes: &[u8]) -> Self
-        ensures failed { StaysFailed self.ok result.ok }
-        ensures nothing { length bytes.now ≡ 0 → result.ok ≡ self.ok }
-    {
-        if !self.ok {
-            return self;
-        }
-        let mut error: i32 = 0;
-        let done = whole_io::write_whole(&mut self.rt.stdout(), bytes, &mut error);
-        self.outcome(done, error)
-    }
-
     // The report's end. What was written is stored: some file systems tell only then that a write has failed.
-    pub fn end(self) -> Self
-        ensures { StaysFailed self.ok result.ok }
+    pub fn end(&mut self)
+        ensures { StaysFailed self.old.ok self.new.ok }
+    {
+        if self.ok {
+            let stored = store_output(&self.rt);
+            let _ = self.outcome(stored);
+        }
+    }
+
+    // What a call on standard output leaves of the report.
+    fn outcome(&mut self, call: io::Result<()>) -> fmt::Result
+        ensures answer { is_ok result ≡ is_ok call }
+        ensures ok { self.new.ok ≡ (is_ok call && self.old.ok) }
+    {
+        let Err(e) = call else {
+            return Ok(());
+        };
+        whole_io::write_failure(&mut self.rt.stderr(), b"standard output", &e);
+        self.ok = false;
+        Err(fmt::Error)
+    }
+}
+
+impl fmt::Write for Report {
+    ghost write_str_gives = { λ before part after. (before.ok ≡ true) × (after.ok ≡ true) };
+
+    fn write_str(&mut self, part: &str) -> fmt::Result
+        ensures ok { IsOk result → (self.old.ok ≡ true) × (self.new.ok ≡ true) }
+        ensures outcome { is_ok result ≡ self.new.ok }
+        ensures failed { StaysFailed self.old.ok self.new.ok }
+        ensures nothing { length part.now ≡ 0 → self.new.ok ≡ self.old.ok }
     {
         if !self.ok {
-            return self;
+            return Err(fmt::Error);
         }
-        let error = store_output(&self.rt);
-        self.outcome(error == 0, error)
+        let written = whole_io::write_whole(&mut self.rt.stdout(), part.as_bytes());
+        self.outcome(written)
     }
+}
 
-    // What a call on standard output leaves of the report, which failed with this errno where it wasn't done.
-    fn outcome(self, done: bool, error: i32) -> Self
-        ensures { result.ok ≡ (done && self.ok) }
-    {
-        if done {
-            return self;
-        }
-        whole_io::write_failure(&mut self.rt.stderr(), b"standard output", error);
-        Report {
-            ok: false,
-            rt: self.rt,
-        }
-    }
-
-    pub fn decimal(self, n: u64) -> Self
-        ensures { StaysFailed self.ok result.ok }
-    {
-        let mut digits = [0u8; 20];
-        let k = io::decimal(n, &mut digits);
-        self.text(&digits[..k])
-    }
-
-    // In lower case, with zeros in front up to width digits, at most 16.
-    pub fn hex(self, n: u64, width: usize) -> Self
-        ensures { StaysFailed self.ok result.ok }
-    {
-        let mut digits = [0u8; 16];
-        let k = io::hex(n, width, &mut digits);
-        self.text(&digits[..k])
-    }
-
-    // In hex, two digits a byte.
-    pub fn bytes(self, bytes: &[u8]) -> Self
-        ensures { StaysFailed self.ok result.ok }
-    {
-        let mut report = self;
-        for byte in bytes {
-            report = report.hex(u64::from(*byte), 2);
-        }
-        report
-    }
-
-    // A label and a number behind it.
-    pub fn labelled(self, label: &[u8], n: u64) -> Self
-        ensures { StaysFailed self.ok result.ok }
-    {
-        self.text(label).decimal(n)
-    }
-
-    // A line for an example that a document gives: whether it came out as written there.
-    pub fn example(self, example: &[u8], as_written: bool) -> Self
-        ensures { StaysFailed self.ok result.ok }
-    {
-        let report = self.text(example);
-        if as_written {
-            return report.text(b": as written\n");
-        }
-        report.text(b": DIFFERS\n")
-    }
-
-    // The first n bytes of a text, as they are; none where it has fewer.
-    fn front(self, text: &[u8], n: usize) -> Self
-        ensures { StaysFailed self.ok result.ok }
-    {
-        if n <= text.len() {
-            return self.text(&text[..n]);
-        }
-        self
-    }
-
-    // The refusal's number, which ends its line, and a line with its meaning.
-    pub fn refusal(self, why: Refusal) -> Self
-        ensures { StaysFailed self.ok result.ok }
-    {
-        let mut words = [0u8; Refusal::LONGEST_MEANING];
-        let n = why.put_meaning(&mut words);
-        let report = self.decimal(why.number() as u64).text(b"\nmeaning: ");
-        report.front(&words, n).text(b"\n")
+// Writes a line for an example that a document gives: whether it came out as written there.
+#[tactic(auto, unfolding(crate::specs::Report::example_line))]
+pub fn example<W: fmt::Write>(out: &mut W, example: &str, as_written: bool) -> fmt::Result
+    ensures { OnOk result (WritesInCalls W.write_str_gives out.old (example_line example.now as_written) out.new) }
+{
+    if as_written {
+        writeln!(out, "{example}: as written")
+    } else {
+        writeln!(out, "{example}: DIFFERS")
     }
 }
