@@ -1,1 +1,2 @@
-mod Comparison
+pub mod Comparison
+pub mod Shown
