@@ -3,90 +3,61 @@
 
 pub mod counting;
 
-ghost use Rattle.std.specs.Prelude.{◌≡◌, true};
-ghost use Rattle.report.specs.Report.{StaysFailed};
+ghost use Rattle.std.specs.Prelude.{◌≡◌, OnOk};
+ghost use Rattle.std.specs.Fmt.{WritesText};
 ghost use Rattle.vector_report.specs.Counts.{one_more, differing};
+ghost use Rattle.vector_report.specs.Lines.{vector_line, last_line};
 
-use report::Report;
+use hex_text::Hex;
+use std::fmt;
 
-// How many vectors were run, how many of them differ, and the report that says so.
+// How many vectors were run, how many of them differ, and where that is said.
 #[derive(Drop)]
-pub struct Tally {
+pub struct Tally<W> {
     pub run: u64,
     pub differ: u64,
-    pub report: Report,
+    pub out: W,
 }
 
-impl Tally {
-    pub fn new(rt: HostRuntime) -> Self
+impl<W: fmt::Write> Tally<W> {
+    pub fn new(out: W) -> Self
         ensures counts { (result.run ≡ 0) × (result.differ ≡ 0) }
-        ensures report { result.report.ok ≡ true }
+        ensures out { result.out ≡ out }
     {
         Tally {
             run: 0,
             differ: 0,
-            report: Report::new(rt),
+            out,
         }
     }
 
-    // A part of what a vector's line begins with.
-    pub fn text(self, text: &[u8]) -> Self
-        ensures counts { (result.run ≡ self.run) × (result.differ ≡ self.differ) }
-        ensures failed { StaysFailed self.report.ok result.report.ok }
+    // A vector's line: whether the computed bytes are the expected ones, or which others they are.
+    #[tactic(auto, unfolding(crate::specs::Counts::differing, crate::specs::Lines::vector_line))]
+    pub fn compare<D: fmt::Display + Drop>(
+        &mut self,
+        vector: D,
+        computed: &[u8],
+        expected: &[u8],
+    ) -> fmt::Result
+        ensures run { self.new.run ≡ one_more self.old.run }
+        ensures differ { self.new.differ ≡ differing computed.now expected.now self.old.differ }
+        ensures written { OnOk result (WritesText W.write_str_gives self.old.out
+            (vector_line (D.output vector) computed.now expected.now) self.new.out) }
     {
-        Self::reporting(self.run, self.differ, self.report.text(text))
-    }
-
-    pub fn labelled(self, label: &[u8], n: u64) -> Self
-        ensures counts { (result.run ≡ self.run) × (result.differ ≡ self.differ) }
-        ensures failed { StaysFailed self.report.ok result.report.ok }
-    {
-        Self::reporting(self.run, self.differ, self.report.labelled(label, n))
-    }
-
-    // Ends a vector's line: whether the computed bytes are the expected ones, or which others they are.
-    pub fn compare(self, computed: &[u8], expected: &[u8]) -> Self
-        ensures run { result.run ≡ one_more self.run }
-        ensures differ { result.differ ≡ differing computed.now expected.now self.differ }
-        ensures failed { StaysFailed self.report.ok result.report.ok }
-    {
-        let report = self.report;
-        let run = std::num::wrapping_add_u64(self.run, 1);
+        self.run = self.run.wrapping_add(1);
         if hex_text::same(computed, expected) {
-            return Tally {
-                run,
-                differ: self.differ,
-                report: report.text(b": ok\n"),
-            };
+            return writeln!(self.out, "{vector}: ok");
         }
-        let differ = std::num::wrapping_add_u64(self.differ, 1);
-        Tally {
-            run,
-            differ,
-            report: report.text(b": ").bytes(computed).text(b"\n"),
-        }
+        self.differ = self.differ.wrapping_add(1);
+        writeln!(self.out, "{vector}: {}", Hex(computed))
     }
 
-    // The last line, and the report's end.
-    pub fn summary(self) -> Self
-        ensures counts { (result.run ≡ self.run) × (result.differ ≡ self.differ) }
-        ensures failed { StaysFailed self.report.ok result.report.ok }
+    // The last line.
+    pub fn summary(&mut self) -> fmt::Result
+        ensures counts { (self.new.run ≡ self.old.run) × (self.new.differ ≡ self.old.differ) }
+        ensures written { OnOk result (WritesText W.write_str_gives self.old.out
+            (last_line self.old.run self.old.differ) self.new.out) }
     {
-        let run = self.run;
-        let differ = self.differ;
-        let counted = self.labelled(b"", run).labelled(b" vectors, ", differ);
-        Self::reporting(run, differ, counted.report.text(b" differ\n").end())
-    }
-
-    // These counts with a report.
-    fn reporting(run: u64, differ: u64, report: Report) -> Self
-        ensures counts { (result.run ≡ run) × (result.differ ≡ differ) }
-        ensures report { result.report ≡ report }
-    {
-        Tally {
-            run,
-            differ,
-            report,
-        }
+        writeln!(self.out, "{} vectors, {} differ", self.run, self.differ)
     }
 }
