@@ -10,12 +10,22 @@ mod blocks_of_64;
 mod published;
 mod vector;
 
+use report::Report;
+use std::fmt;
 use vector_report::Tally;
 use vector_report::counting::counting_bytes;
 
-fn main(rt: HostRuntime) {
+fn run<W: fmt::Write>(tally: &mut Tally<W>) -> fmt::Result {
     let pattern = counting_bytes();
-    let t1 = published::run(Tally::new(rt));
-    let t2 = blocks_of_64::run(t1, &pattern);
-    blocks_of_128::run(t2, &pattern).summary();
+    published::run(tally)?;
+    blocks_of_64::run(tally, &pattern)?;
+    blocks_of_128::run(tally, &pattern)?;
+    tally.summary()
+}
+
+fn main(rt: HostRuntime) {
+    let mut tally = Tally::new(Report::new(rt));
+    // The report has said on standard error what couldn't be written.
+    let _ = run(&mut tally);
+    tally.out.end();
 }

@@ -1,4 +1,6 @@
 // One vector of one hash, which is one line of the report.
+use std::fmt;
+use std::fmt::Display;
 use vector_report::Tally;
 
 #[derive(Clone, Copy)]
@@ -8,57 +10,47 @@ pub(crate) enum Hash {
     Sha512,
 }
 
-// What a line begins with.
-fn begin(tally: Tally, hash: Hash) -> Tally {
-    match hash {
-        Hash::Sha256 => tally.text(b"SHA-256 of "),
-        Hash::Sha384 => tally.text(b"SHA-384 of "),
-        Hash::Sha512 => tally.text(b"SHA-512 of "),
+impl Display for Hash {
+    fn fmt<W: fmt::Write>(&self, f: &mut fmt::Formatter<W>) -> fmt::Result {
+        f.write_str(match self {
+            Hash::Sha256 => "SHA-256",
+            Hash::Sha384 => "SHA-384",
+            Hash::Sha512 => "SHA-512",
+        })
     }
 }
 
 // Hashes a message and writes whether the digest is the expected one, or which other it is.
-fn compare(tally: Tally, hash: Hash, message: &[u8], expected: &[u8]) -> Tally {
-    match hash {
-        Hash::Sha256 => {
-            let hashed = sha256::sha256(message);
-            let digest = hashed.digest;
-            tally.compare(&digest, expected)
-        }
-        Hash::Sha384 => {
-            let digest = sha512::sha384(message);
-            tally.compare(&digest, expected)
-        }
-        Hash::Sha512 => {
-            let digest = sha512::sha512(message);
-            tally.compare(&digest, expected)
-        }
-    }
-}
-
-pub(crate) fn of_message(
-    tally: Tally,
+pub(crate) fn of_message<W: fmt::Write, D: Display + Drop>(
+    tally: &mut Tally<W>,
     hash: Hash,
-    name: &[u8],
+    name: D,
     message: &[u8],
-    expected: &[u8],
-) -> Tally {
-    compare(begin(tally, hash).text(name), hash, message, expected)
+    expected: &str,
+) -> fmt::Result {
+    let vector = format_args!("{hash} of {name}");
+    let expected = expected.as_bytes();
+    match hash {
+        Hash::Sha256 => tally.compare(vector, &sha256::sha256(message).digest, expected),
+        Hash::Sha384 => tally.compare(vector, &sha512::sha384(message), expected),
+        Hash::Sha512 => tally.compare(vector, &sha512::sha512(message), expected),
+    }
 }
 
 // The first n bytes of the pattern, all of it where n is more.
-pub(crate) fn of_pattern(
-    tally: Tally,
+pub(crate) fn of_pattern<W: fmt::Write>(
+    tally: &mut Tally<W>,
     hash: Hash,
     pattern: &[u8],
     n: usize,
-    expected: &[u8],
-) -> Tally {
-    let named = begin(tally, hash)
-        .labelled(b"a pattern of ", n as u64)
-        .text(b" bytes");
-    if n < pattern.len() {
-        return compare(named, hash, &pattern[0..n], expected);
-    }
-    compare(named, hash, pattern, expected)
+    expected: &str,
+) -> fmt::Result {
+    let message = &pattern[..n.min(pattern.len())];
+    of_message(
+        tally,
+        hash,
+        format_args!("a pattern of {n} bytes"),
+        message,
+        expected,
+    )
 }
