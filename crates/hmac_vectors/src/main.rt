@@ -4,16 +4,25 @@
 #![tactic(auto)]
 
 mod key_lengths;
-mod keys;
 mod pairing_keys;
 mod rfc4231;
 
+use report::Report;
+use std::fmt;
 use vector_report::Tally;
 use vector_report::counting::counting_bytes;
 
-fn main(rt: HostRuntime) {
+fn run<W: fmt::Write>(tally: &mut Tally<W>) -> fmt::Result {
     let m = counting_bytes();
-    let t1 = rfc4231::run(Tally::new(rt));
-    let t2 = key_lengths::run(t1, &m);
-    pairing_keys::run(t2, &m).summary();
+    rfc4231::run(tally)?;
+    key_lengths::run(tally, &m)?;
+    pairing_keys::run(tally, &m)?;
+    tally.summary()
+}
+
+fn main(rt: HostRuntime) {
+    let mut tally = Tally::new(Report::new(rt));
+    // The report has said on standard error what couldn't be written.
+    let _ = run(&mut tally);
+    tally.out.end();
 }
