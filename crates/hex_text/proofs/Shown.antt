@@ -28,4 +28,6 @@ hex_append (x ∷ xs) b = grind (arith, common_steps, hex_append xs b)
 pub with_next : (b : List ℕ) (i : ℕ) → i < length b → hex_text (take i b) ++ byte_text (get_or b i 0) ≡ hex_text (take (i + 1) b)
 unfolding hex_text
 with_next b i h =
-    ap (λ (t : List ℕ). hex_text (take i b) ++ t) (sym (append-nil (byte_text (get_or b i 0)))) ∙ sym (hex_append (take i b) (get_or b i 0 ∷ [])) ∙ ap hex_text (sym (take_more b i 0 h))
+    ap (λ (t : List ℕ). hex_text (take i b) ++ t) (sym (append-nil (byte_text (get_or b i 0))))
+    ∙ sym (hex_append (take i b) (get_or b i 0 ∷ []))
+    ∙ ap hex_text (sym (take_more b i 0 h))

@@ -1,5 +1,5 @@
-// HMAC-SHA-256 (FIPS 198-1) of one text under keys of lengths around the block's 64 bytes. The values are OpenSSL's (`openssl mac -digest SHA256 -macopt hexkey:..
-// HMAC`), and Python's hmac gave the same. Zeros fill a short key's block, so that the keys of 0 bytes and of 1 byte, a zero, have the same MAC.
+// HMAC-SHA-256 (FIPS 198-1) of one text under keys of lengths around the block's 64 bytes. The values are OpenSSL's (`openssl mac -digest SHA256 -macopt
+// hexkey:.. HMAC`), and Python's hmac gave the same. Zeros fill a short key's block, so that the keys of 0 bytes and of 1 byte, a zero, have the same MAC.
 use hmac::hmac_sha256;
 use std::fmt;
 use vector_report::Tally;

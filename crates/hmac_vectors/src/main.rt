@@ -1,6 +1,6 @@
 // Runs `hmac_sha256` and `pairing_key` on vectors whose values come from outside, and compares. Each module says where its values are from; none was taken from
-// this code. Python's hmac and cryptography, which they were compared with, work by OpenSSL, so each was also compared with FIPS 198-1 written out in Python over
-// CPython's own SHA-256 (_sha256).
+// this code. Python's hmac and cryptography, which they were compared with, work by OpenSSL, so each was also compared with FIPS 198-1 written out in Python
+// over CPython's own SHA-256 (_sha256).
 #![tactic(auto)]
 
 mod key_lengths;

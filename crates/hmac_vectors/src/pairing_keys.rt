@@ -1,5 +1,6 @@
-// Pairing keys (document 02, Item 14) from session keys of several lengths. The values are those of OpenSSL 3.0's KBKDF, whose salt is the label of NIST SP 800-108:
-// `openssl kdf -keylen 32 -kdfopt mac:HMAC -kdfopt digest:SHA256 -kdfopt hexkey:.. -kdfopt salt:pairing KBKDF`. KBKDFHMAC of Python's cryptography gave the same.
+// Pairing keys (document 02, Item 14) from session keys of several lengths. The values are those of OpenSSL 3.0's KBKDF, whose salt is the label of NIST SP
+// 800-108: `openssl kdf -keylen 32 -kdfopt mac:HMAC -kdfopt digest:SHA256 -kdfopt hexkey:.. -kdfopt salt:pairing KBKDF`. KBKDFHMAC of Python's cryptography
+// gave the same.
 use pairing::pairing_key;
 use std::fmt;
 use vector_report::Tally;

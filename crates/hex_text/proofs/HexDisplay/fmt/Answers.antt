@@ -11,7 +11,7 @@ loop-byte-preserved g c p =
     let n = get_or c.args.self.now.0.now c.loop-byte.byte-index 0 in
     let b : n < 256 = search rules in
     let text : styled_digits_output c.in_radix.result c.laid_out.result ≡ Some (byte_text n) =
-    (λ i. option_map (padded_integral (c.laid_out.ensures i) false (shown_prefix (c.laid_out.ensures i) (radix_prefix c.in_radix.result.base))) (c.in_radix.ensures i))
+    (λ i. let s = c.laid_out.ensures i in option_map (padded_integral s false (shown_prefix s (radix_prefix c.in_radix.result.base))) (c.in_radix.ensures i))
     ∙ ap Some (byte_shown n b) in
     let done = c.loop-byte.invariant p in
     let writes = rw text at c.in_ok-write.ensures.writes in
