@@ -2,7 +2,7 @@
 #![tactic(auto)]
 
 ghost use Rattle.std.specs.Prelude.{◌≡◌, true, ◌&&◌, length, is_ok, IsOk, OnOk};
-ghost use Rattle.std.specs.Fmt.{WritesInCalls};
+ghost use Rattle.std.specs.Fmt.{WritesText};
 ghost use Rattle.report.specs.Report.{StaysFailed, example_line};
 
 use std::fs::OpenOptions;
@@ -85,8 +85,12 @@ impl fmt::Write for Report {
 
 // Writes a line for an example that a document gives: whether it came out as written there.
 #[tactic(auto, unfolding(crate::specs::Report::example_line))]
-pub fn example<W: fmt::Write>(out: &mut W, example: &str, as_written: bool) -> fmt::Result
-    ensures { OnOk result (WritesInCalls W.write_str_gives out.old (example_line example.now as_written) out.new) }
+pub fn example<W: fmt::Write, D: fmt::Display + Drop>(
+    out: &mut W,
+    example: D,
+    as_written: bool,
+) -> fmt::Result
+    ensures { OnOk result (WritesText W.write_str_gives out.old (example_line (D.output example) as_written) out.new) }
 {
     if as_written {
         writeln!(out, "{example}: as written")
