@@ -35,7 +35,8 @@ const MACS: [(usize, &str); 6] = [
 // The keys are the first bytes of m, whose byte i is i.
 pub(crate) fn run<W: fmt::Write>(tally: &mut Tally<W>, m: &[u8]) -> fmt::Result {
     for (n, expected) in MACS {
-        let mac = hmac_sha256(&m[..n.min(m.len())], b"pairing").mac;
+        // A refusal would show as zeros, which no vector has.
+        let mac = hmac_sha256(&m[..n.min(m.len())], b"pairing").unwrap_or([0; 32]);
         tally.compare(format_args!("key of {n} bytes"), &mac, expected.as_bytes())?;
     }
     Ok(())
