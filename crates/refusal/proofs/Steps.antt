@@ -86,6 +86,18 @@ module _ {A : Type 0} where
       first_value (v ∷ vs) = v
   reply_taken {r = Err why} e h = absurd (omega (arith, refusal_positive why, ap (λ (p : Reply A). p.number) e))
 
+  -- and what is known of the reply by the `Result`
+  pub reply_number : (r : Result A Refusal) {n : ℕ} (x : A) → reply_of r ≡ reply n x → number_of r ≡ n
+  reply_number (Ok y) x e = ap (λ (p : Reply A). p.number) e
+  reply_number (Err why) x e = ap (λ (p : Reply A). p.number) e
+
+  pub reply_value : (r : Result A Refusal) {n : ℕ} {x y : A} → reply_of r ≡ reply n x → r ≡ Ok y → y ≡ x
+  reply_value r {x = x} {y = y} e f = ap (result_or y) (sym f ∙ reply_taken e (sym (reply_number r x e) ∙ ap number_of f))
+    where
+      result_or : A → Result A Refusal → A
+      result_or z (Ok v) = v
+      result_or z (Err w) = z
+
   -- what goes on from a reply
   pub given_yes : {B : Type 0} {n : ℕ} (x : B) (before : A) (next : B → Outcome A) → n ≡ 0 → given (reply n x) before next ≡ next x
   given_yes x before next e = rw e
