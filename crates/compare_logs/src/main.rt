@@ -6,59 +6,60 @@ mod lines;
 mod words;
 
 use lines::write_lines;
-use log_comparison::Judged;
+use log_comparison::RefusedLog;
 use report::Report;
-use whole_io::Reading;
+use std::fmt;
+use std::fmt::Write;
 use words::write_words;
 
 // The longest text and one byte more, so that a longer file is seen to be longer.
 const READ_LEN: usize = log_text::BUFFER_LEN + 1;
 
+// What the lines on standard error begin with for an argument that names no file.
+const ARGUMENT: &[u8] = b"compare_logs: argument";
+
+const USAGE: &str =
+    "usage: compare_logs LEFT RIGHT\ncompares two recorded measurement logs and writes, PMR by PMR, where their digests first differ\n";
+
 // What the comparison of the texts in the files that arguments 1 and 2 name says.
-fn compare(rt: &HostRuntime, report: Report, left: &[u8], right: &[u8]) -> Report {
-    let comparison = log_comparison::compare(left, right);
-    let judged = comparison.judged;
-    let pmrs = comparison.pmrs;
-    match judged {
-        Judged::LeftRefused(why) => {
+fn compare<W: Write>(rt: &HostRuntime, out: &mut W, left: &[u8], right: &[u8]) -> fmt::Result {
+    match log_comparison::compare(left, right) {
+        Ok(pmrs) => {
+            write_lines(out, &pmrs)?;
+            write_words(out, &pmrs)
+        }
+        Err(RefusedLog::Left(why)) => {
             legacy_log::explain(rt, 1, left);
-            report.text(b"refused left ").refusal(why)
+            write!(out, "refused left {}\nmeaning: {why}\n", why.number())
         }
-        Judged::RightRefused(why) => {
+        Err(RefusedLog::Right(why)) => {
             legacy_log::explain(rt, 2, right);
-            report.text(b"refused right ").refusal(why)
+            write!(out, "refused right {}\nmeaning: {why}\n", why.number())
         }
-        Judged::Accepted => write_words(write_lines(report, pmrs), pmrs),
     }
 }
 
 // Both files are read, so that each that can't be read whole has its line on standard error; what was read of it is never judged.
-fn compare_named(rt: &HostRuntime, report: Report, left: &mut [u8], right: &mut [u8]) -> Report {
-    let read_left = file_arguments::read_argument(rt, 1, b"compare_logs: argument", left);
-    let read_right = file_arguments::read_argument(rt, 2, b"compare_logs: argument", right);
-    match read_left {
-        Reading::Failed => match read_right {
-            Reading::Failed => report.text(b"unread left\nunread right\n"),
-            Reading::Whole(_) => report.text(b"unread left\n"),
-        },
-        Reading::Whole(n) => match read_right {
-            Reading::Failed => report.text(b"unread right\n"),
-            Reading::Whole(m) => compare(rt, report, &left[..n], &right[..m]),
-        },
+fn compare_named<W: Write>(rt: &HostRuntime, out: &mut W) -> fmt::Result {
+    let mut left = [0u8; READ_LEN];
+    let mut right = [0u8; READ_LEN];
+    let read_left = file_arguments::read_argument(rt, 1, ARGUMENT, &mut left);
+    let read_right = file_arguments::read_argument(rt, 2, ARGUMENT, &mut right);
+    match (read_left, read_right) {
+        (Ok(n), Ok(m)) => compare(rt, out, &left[..n], &right[..m]),
+        (Ok(_), Err(_)) => writeln!(out, "unread right"),
+        (Err(_), Ok(_)) => writeln!(out, "unread left"),
+        (Err(_), Err(_)) => writeln!(out, "unread left\nunread right"),
     }
 }
 
 fn main(rt: HostRuntime) {
     if file_arguments::argument_count(&rt) != 3 {
-        let mut error: i32 = 0;
-        whole_io::write_whole(
-            &mut rt.stderr(),
-            b"usage: compare_logs LEFT RIGHT\ncompares two recorded measurement logs and writes, PMR by PMR, where their digests first differ\n",
-            &mut error,
-        );
+        let _ = whole_io::write_whole(&mut rt.stderr(), USAGE.as_bytes());
         return;
     }
-    let mut left = [0u8; READ_LEN];
-    let mut right = [0u8; READ_LEN];
-    compare_named(&rt, Report::new(rt), &mut left, &mut right).end();
+    let mut report = Report::new(rt);
+    // The report has said on standard error what couldn't be written.
+    let _ = compare_named(&rt, &mut report);
+    report.end();
 }

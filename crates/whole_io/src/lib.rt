@@ -76,6 +76,7 @@ pub fn read_whole<R: Read>(from: &mut R, buffer: &mut [u8]) -> io::Result<usize>
     let len = buffer.len();
     let mut done = 0;
     let mut interruptions = INTERRUPTIONS;
+    // Only a call tells where the next begins: no iterator gives the turns.
     while done < len {
         match step_after(from.read(&mut buffer[done..]), done, len, interruptions) {
             ControlFlow::Continue(next) => (done, interruptions) = next,
@@ -95,6 +96,7 @@ pub fn write_whole<W: Write>(to: &mut W, bytes: &[u8]) -> io::Result<()>
     let len = bytes.len();
     let mut done = 0;
     let mut interruptions = INTERRUPTIONS;
+    // As in read_whole.
     while done < len {
         match step_after(to.write(&bytes[done..]), done, len, interruptions) {
             ControlFlow::Continue(next) => (done, interruptions) = next,
