@@ -8,6 +8,7 @@ use Rattle.std.specs.Prelude.{Option}
 use Rattle.std.specs.declared.io.Error.{Error}
 use Rattle.std.specs.Io.{ReadsAtMost}
 use Rattle.std.specs.Io.KnownBytes.{Consumes, IsAtEnd, Appends, ReadConsumes, WriteAppends}
+use Rattle.whole_io.specs.declared.Progress.{Progress}
 use Rattle.whole_io.proofs.TransferLaws.{GoesOn, Ends}
 
 -- ---- a reader
@@ -29,8 +30,8 @@ pub record Read (before after : Option (List ℕ)) (buffer : List ℕ) (reading 
   pub failed : OnErr reading ((n : ℕ) × Consumes before after (take n buffer))
 
 module _ (done k : ℕ) (before old new : Option (List ℕ)) (buffer got : List ℕ) (within : done ≤ length buffer) (gave : Consumes before old (take done buffer)) where
-  pub read_again : (left : ℕ) (call : Result ℕ Error) (next : ℕ × ℕ) → ReadsAtMost call got → ReadConsumes old new call got → GoesOn done left call next
-      → Consumes before new (take next.0 (put_mid done k buffer got))
+  pub read_again : (left : ℕ) (call : Result ℕ Error) (next : Progress) → ReadsAtMost call got → ReadConsumes old new call got → GoesOn done left call next
+      → Consumes before new (take next.done (put_mid done k buffer got))
   read_again left (Ok n) next bound bytes on =
       subst (Consumes before new)
       (sym (ap (λ (x : ℕ). take x (put_mid done k buffer got)) on.1 ∙ taken done k n buffer got within bound.0))
@@ -71,7 +72,7 @@ module _ (done : ℕ) (before old new : Option (List ℕ)) (bytes : List ℕ) (g
       let whole : rest ≡ drop done bytes = take_all (length bytes - done) (drop done bytes) (omega (arith, length-drop done bytes)) in
       ap (λ (l : List ℕ). take done bytes ++ take n l) whole ∙ sym (take-add done n bytes)
 
-  pub write_again : (left : ℕ) (call : Result ℕ Error) (next : ℕ × ℕ) → WriteAppends old new call rest → GoesOn done left call next → Appends before new (take next.0 bytes)
+  pub write_again : (left : ℕ) (call : Result ℕ Error) (next : Progress) → WriteAppends old new call rest → GoesOn done left call next → Appends before new (take next.done bytes)
   write_again left (Ok n) next moved on =
       subst (Appends before new) (taken_of n ∙ ap (λ (x : ℕ). take x bytes) (sym on.1)) (Appends-trans before old new (take done bytes) (take n rest) gave moved)
   write_again left (Err e) next moved on =

@@ -41,24 +41,39 @@ pub fn call_moved(call: io::Result<usize>, room: usize) -> Moved
     }
 }
 
-// After a call that was lent all of len bytes but the first done, with so many interruptions still allowed: how many are done and allowed before the next call,
-// or what the whole reading comes to.
+// How far a reading or a writing has come.
+#[derive(Clone, Copy)]
+pub(crate) struct Progress {
+    done: usize,
+    // How many interruptions are still allowed.
+    interruptions: usize,
+}
+
+const START: Progress = Progress {
+    done: 0,
+    interruptions: INTERRUPTIONS,
+};
+
+// After a call that was lent all of len bytes but those done: how far the next call finds it, or what the whole reading comes to.
 #[tactic(auto, using(crate::proofs::CallLaws::bytes_most), unfolding(crate::specs::Transfers::step_after))]
 pub(crate) fn step_after(
     call: io::Result<usize>,
-    done: usize,
+    at: Progress,
     len: usize,
-    interruptions: usize,
-) -> ControlFlow<io::Result<usize>, (usize, usize)>
-    requires { done ≤ len }
-    ensures { result ≡ step_after (moved_by call (len - done)) done interruptions }
+) -> ControlFlow<io::Result<usize>, Progress>
+    requires { at.done ≤ len }
+    ensures { result ≡ step_after (moved_by call (len - at.done)) at.done at.interruptions }
 {
-    match call_moved(call, len - done) {
-        Moved::Bytes(n) => ControlFlow::Continue((done + n, interruptions)),
-        Moved::Nothing => ControlFlow::Break(Ok(done)),
-        Moved::Interrupted(_) if interruptions > 0 => {
-            ControlFlow::Continue((done, interruptions - 1))
-        }
+    match call_moved(call, len - at.done) {
+        Moved::Bytes(n) => ControlFlow::Continue(Progress {
+            done: at.done + n,
+            ..at
+        }),
+        Moved::Nothing => ControlFlow::Break(Ok(at.done)),
+        Moved::Interrupted(_) if at.interruptions > 0 => ControlFlow::Continue(Progress {
+            interruptions: at.interruptions - 1,
+            ..at
+        }),
         Moved::Interrupted(e) | Moved::Failed(e) => ControlFlow::Break(Err(e)),
     }
 }
@@ -74,16 +89,15 @@ pub fn read_whole<R: Read>(from: &mut R, buffer: &mut [u8]) -> io::Result<usize>
     ensures failed { OnErr result ((n : ℕ) × Consumes (R.remaining from.old) (R.remaining from.new) (take n buffer.new)) }
 {
     let len = buffer.len();
-    let mut done = 0;
-    let mut interruptions = INTERRUPTIONS;
+    let mut at = START;
     // Only a call tells where the next begins: no iterator gives the turns.
-    while done < len {
-        match step_after(from.read(&mut buffer[done..]), done, len, interruptions) {
-            ControlFlow::Continue(next) => (done, interruptions) = next,
+    while at.done < len {
+        match step_after(from.read(&mut buffer[at.done..]), at, len) {
+            ControlFlow::Continue(next) => at = next,
             ControlFlow::Break(reading) => return reading,
         }
     }
-    Ok(done)
+    Ok(at.done)
 }
 
 // Writes all of the bytes. Where it fails, some of them may have been written. Where there is nothing to write, nothing fails.
@@ -94,12 +108,11 @@ pub fn write_whole<W: Write>(to: &mut W, bytes: &[u8]) -> io::Result<()>
     ensures failed { OnErr result ((n : ℕ) × Appends (W.contents to.old) (W.contents to.new) (take n bytes.now)) }
 {
     let len = bytes.len();
-    let mut done = 0;
-    let mut interruptions = INTERRUPTIONS;
+    let mut at = START;
     // As in read_whole.
-    while done < len {
-        match step_after(to.write(&bytes[done..]), done, len, interruptions) {
-            ControlFlow::Continue(next) => (done, interruptions) = next,
+    while at.done < len {
+        match step_after(to.write(&bytes[at.done..]), at, len) {
+            ControlFlow::Continue(next) => at = next,
             // A write that took no byte has failed, and the system gives no reason.
             ControlFlow::Break(Ok(_)) => return Err(io::Error::from_raw_os_error(0)),
             ControlFlow::Break(Err(e)) => return Err(e),
