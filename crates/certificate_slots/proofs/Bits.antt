@@ -4,7 +4,7 @@ use mathlib.Core.Path.{◌≡◌, refl, sym, ap, subst, ◌∙◌}
 use mathlib.Core.Bool.{true, false, cond}
 use mathlib.Core.List.{List, [], ◌∷◌, ◌++◌}
 use mathlib.Core.Logic.{◌⊎◌, inl, inr, ⊎_elim, ◌↔◌}
-use mathlib.Core.Option.{some, none-ne-some}
+use Rattle.std.specs.Prelude.{Some}
 use native.Mathlib.Nat.{mod-lt, eq-or-lt_of_le, le_of_suc-le-suc, not-suc-le-zero}
 use native.Mathlib.Omega.{arith}
 use lib.Dec.{eqb}
@@ -85,11 +85,11 @@ unfolding chains_below
 none_below zero n h = refl
 none_below (suc w) n h = none_next w n (h w (omega arith)) (none_below w n (λ k l. h k (omega arith)))
 
-first_append : (k : ℕ) (xs ys : List ℕ) → first xs ≡ some k → first (xs ++ ys) ≡ some k
-first_append k [] ys e = absurd (none-ne-some k e)
+first_append : (k : ℕ) (xs ys : List ℕ) → first xs ≡ Some k → first (xs ++ ys) ≡ Some k
+first_append k [] ys e = cc
 first_append k (x ∷ xs) ys e = e
 
-pub first_below : (w n k : ℕ) → k < w → ((j : ℕ) → j < k → n / 2 ^ j % 2 ≡ 0) → n / 2 ^ k % 2 ≡ 1 → first (chains_below w n) ≡ some k
+pub first_below : (w n k : ℕ) → k < w → ((j : ℕ) → j < k → n / 2 ^ j % 2 ≡ 0) → n / 2 ^ k % 2 ≡ 1 → first (chains_below w n) ≡ Some k
 unfolding chains_below holds_chain
 first_below zero n k l h b = absurd (not-suc-le-zero l)
 first_below (suc w) n k l h b =

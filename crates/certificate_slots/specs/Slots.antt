@@ -1,9 +1,6 @@
 -- The certificate slot mask: document 000, Challenge, the response's payload byte 2. Document 02, Item 14: "the certificate slot mask of eight bits from
 -- the challenge response (slot 0 is the bit worth 1): how many slots hold a chain, and the lowest that does, with a named answer for none".
-use Rattle.std.specs.Prelude.{ℕ, zero, suc, ◌/◌, ◌%◌, ◌^◌, Bool, cond, List, [], ◌∷◌, ◌++◌, length, eqb}
-use Rattle.std.proofs.Math.Option.{Option, none, some}
-use Rattle.certificate_slots.specs.declared.Lowest.{Lowest}
-use Rattle.certificate_slots.specs.declared.Lowest.TheVariants.{NoChain, Slot}
+use Rattle.std.specs.Prelude.{ℕ, zero, suc, ◌/◌, ◌%◌, ◌^◌, Bool, cond, Option, None, Some, List, [], ◌∷◌, ◌++◌, length, eqb}
 
 -- slot k holds a chain: the bit worth 2 ^ k is set
 unfoldable pub holds_chain : ℕ → ℕ → Bool
@@ -22,13 +19,8 @@ unfoldable pub chain_count : ℕ → ℕ
 chain_count mask = length (chains mask)
 
 abbrev pub first : List ℕ → Option ℕ
-first [] = none
-first (k ∷ ks) = some k
+first [] = None
+first (k ∷ ks) = Some k
 
 unfoldable pub lowest_chain : ℕ → Option ℕ
 lowest_chain mask = first (chains mask)
-
--- what each case of the answer says
-abbrev pub lowest_of : Lowest → Option ℕ
-lowest_of NoChain = none
-lowest_of (Slot s) = some s.0
