@@ -10,8 +10,9 @@ use native.Mathlib.Omega.{arith}
 use lib.Dec.{eqb}
 use lib.Count.{ones, ones_step, count_trailing_zeros, under}
 use lib.ListN.{length, length-append}
-use lib.Pow.{shr-shr, shr_lt}
+use lib.Pow.{shr_lt}
 use borrow.Author.Tests.{eq-eqb, ne_eqb, eqb-true, eqb-false}
+use Rattle.std.proofs.lemmas.Nat.Bits.{bit_at-suc}
 use Rattle.certificate_slots.specs.Slots.{holds_chain, chains_below, first}
 
 -- a bit is 0 or 1
@@ -22,10 +23,6 @@ bit_cases (suc (suc b)) h = absurd (omega arith)
 
 one_if : (b k : ℕ) → b < 2 → length {A = ℕ} (cond (eqb b 1) (k ∷ []) []) ≡ b
 one_if b k h = ⊎_elim (λ (e : b ≡ 0). rw e refl) (λ (e : b ≡ 1). rw e refl) (bit_cases b h)
-
--- the bit k of n / 2 is the bit suc k of n
-shifted : (n k : ℕ) → n / 2 / 2 ^ k ≡ n / 2 ^ suc k
-shifted n k = shr-shr n 1 k ∙ ap (λ (x : ℕ). n / 2 ^ x) (omega arith)
 
 -- one slot more counts as its bit
 count_next : (k n : ℕ) → length (chains_below (suc k) n) ≡ length (chains_below k n) + n / 2 ^ k % 2
@@ -42,7 +39,7 @@ count_step (suc w) n =
     let s = count_step w n in
     let a = count_next (suc w) n in
     let b = count_next w (n / 2) in
-    let e : n / 2 / 2 ^ w % 2 ≡ n / 2 ^ suc w % 2 = ap (λ (x : ℕ). x % 2) (shifted n w) in
+    let e : n / 2 / 2 ^ w % 2 ≡ n / 2 ^ suc w % 2 = sym (bit_at-suc n w) in
     omega arith
 
 pub ones_count : (w n : ℕ) → n < 2 ^ w → ones n ≡ length (chains_below w n)
@@ -51,7 +48,8 @@ ones_count zero n h = let e : n ≡ 0 = omega arith in ap ones e
 ones_count (suc w) n h =
     ones_step n ∙ ap (λ (x : ℕ). n % 2 + x) (ones_count w (n / 2) (shr_lt w 1 (subst (λ (x : ℕ). n < 2 ^ x) (omega arith) h))) ∙ sym (count_step w n)
 
--- what the count of trailing zeros of w bits tells: the bits below it aren't set, and the one at it is
+-- what the count of trailing zeros of w bits tells: the bits below it aren't set, and the one at it is. For every n, where std's `bit_at-trailing_zeros` has
+-- those alone that w bits hold, without 0
 pub record Trailing (w n t : ℕ) : Type 0 where
   pub within : t ≤ w
   pub below : (k : ℕ) → k < t → n / 2 ^ k % 2 ≡ 0
@@ -62,12 +60,12 @@ under_bit w n zero e h t =
     record {
       within = let l = t.within in omega arith;
       below = below;
-      here = λ l. sym (ap (λ (x : ℕ). x % 2) (shifted n (count_trailing_zeros w (n / 2)))) ∙ t.here (omega arith);
+      here = λ l. bit_at-suc n (count_trailing_zeros w (n / 2)) ∙ t.here (omega arith);
     }
   where
     below : (k : ℕ) → k < suc (count_trailing_zeros w (n / 2)) → n / 2 ^ k % 2 ≡ 0
     below zero l = omega arith
-    below (suc k) l = sym (ap (λ (x : ℕ). x % 2) (shifted n k)) ∙ t.below k (omega arith)
+    below (suc k) l = bit_at-suc n k ∙ t.below k (omega arith)
 under_bit w n (suc b) e h t = record { within = omega arith; below = λ k l. absurd (omega arith); here = λ l. omega arith }
 
 pub trailing_tells : (w n : ℕ) → Trailing w n (count_trailing_zeros w n)
