@@ -1,12 +1,12 @@
 -- Runs of items, over the item's width: of regions, and of hashes of each type.
 use Prim.Native.Nat.{ℕ, zero, suc, ◌≤◌, ◌<◌, ◌+◌, ◌*◌, ◌/◌, ◌%◌}
 use mathlib.Core.Path.{◌≡◌, refl, sym, ap, subst, ◌∙◌}
-use mathlib.Core.Bool.{Bool, true, false, ◌||◌, or-true}
+use mathlib.Core.Bool.{Bool, true, false, ◌||◌}
 use mathlib.Core.List.{List, []}
 use mathlib.Core.Logic.{◌⊎◌, inl, inr}
 use native.Mathlib.Omega.{arith}
-use native.Mathlib.Nat.{mul-le-mul_left, mul-suc, mul-div-le, mul-div_right, mul-mod_right, lt-mul-div-succ, div-add-mod, div-zero, add-zero, le_trans, zero-lt-suc}
-use borrow.Author.Tests.{eq-eqb, ne_eqb, eqb-false, le-ltb, ltb-false, lt-leb, leb-true, leb-false}
+use native.Mathlib.Nat.{mul-le-mul_left, mul-suc, mul-div_right, mul-mod_right, lt-mul-div-succ, div-add-mod, add-zero, zero-lt-suc}
+use borrow.Author.Tests.{ne_eqb, eqb-false, le-ltb, ltb-false, lt-leb, leb-true, leb-false}
 use lib.Dec.{leb, lit<}
 use lib.ListN.{length, take, drop, length-drop, drop_of_length-le}
 use lib.Seq.{length-take-le, take-nil, drop-nil}
@@ -14,10 +14,6 @@ use Rattle.laws.proofs.Tests.{any_no, no_any, equal_no, no_equal}
 use Rattle.refusal.specs.Rules.{◌when◌else◌, first◌then◌}
 use Rattle.refusal.proofs.Laws.{first_yes, when_no, first_accepted, when_accepted}
 use Rattle.element_parts.specs.Parts.{read_number, shown_part, item, item_number, item_count, item_faults, bad_items}
-
--- an index that is at most the number of items is at most the length
-pub item_starts : (w : ℕ) (l : List ℕ) (i : ℕ) → i ≤ item_count w l → w * i ≤ length l
-item_starts w l i h = le_trans (mul-le-mul_left w h) (mul-div-le (length l) w)
 
 -- past the last item
 pub item_past : (w : ℕ) (l : List ℕ) (i : ℕ) → item_count w l < i → [] ≡ item w l i
@@ -75,13 +71,6 @@ item_shown w n part i zero e = tested (leb n i) refl
     tested false f = refl
 
 -- ---- runs and their counts
-
--- no run has items of no bytes
-pub none_of_width : (w : ℕ) (l : List ℕ) → w ≡ 0 → item_count w l ≡ 0
-none_of_width w l e = ap (λ (k : ℕ). length l / k) e ∙ div-zero (length l)
-
-pub bad-width : (w : ℕ) (l : List ℕ) → w ≡ 0 → bad_items w l ≡ true
-bad-width w l e = rw (eq-eqb (item_count w l) 0 (none_of_width w l e), or-true)
 
 -- n items of w bytes
 pub counted : (w n : ℕ) (l : List ℕ) → 0 < w → length l ≡ w * n → item_count w l ≡ n

@@ -1,31 +1,19 @@
--- What a reader's judgement says of its reply and of the parts that it shows, and a writer's of its step: once for all elements.
+-- What a reader's judgement says of its number, and a writer's of its step: once for all elements.
 use Prim.Native.Nat.{ℕ}
-use mathlib.Core.Path.{◌≡◌, refl, sym, ap, ◌∙◌}
+use mathlib.Core.Path.{◌≡◌, refl, sym, ap}
 use mathlib.Core.Bool.{Bool, true, false, not}
-use mathlib.Core.List.{List, [], ◌∷◌}
+use mathlib.Core.List.{List}
 use native.Mathlib.Omega.{arith}
 use borrow.Author.Tests.{ne_eqb}
 use lib.Dec.{eqb, lit<}
 use lib.ListN.{length}
 use Rattle.laws.proofs.Tests.{equal_no, no_equal}
-use Rattle.refusal.specs.Steps.{outcome, Reply, reply}
+use Rattle.refusal.specs.Steps.{outcome}
 use Rattle.refusal.proofs.Laws.{when_accepted, accepted_yes}
 use Rattle.refusal.proofs.Steps.{decided_yes}
-use Rattle.element_parts.specs.Parts.{read_number, write_number, write_step, shown_part}
+use Rattle.element_parts.specs.Parts.{read_number, write_number, write_step}
 
 -- ---- a reader that judges m, and has the number n
-
-pub malformed_reply : {A : Type 0} {m : Bool} {n : ℕ} (x : A) → read_number m ≡ n → m ≡ true → ◌≡◌ {A = Reply A} (record { number = 12; values = [] }) (reply n x)
-malformed_reply x e t = rw (sym e ∙ ap read_number t)
-
-pub sound_reply : {A : Type 0} {m : Bool} {n : ℕ} {x y : A} → read_number m ≡ n → m ≡ false → y ≡ x → ◌≡◌ {A = Reply A} (record { number = 0; values = y ∷ [] }) (reply n x)
-sound_reply {A = A} e t f = rw (sym e ∙ ap read_number t) (λ i. record { number = 0; values = f i ∷ [] })
-
-pub malformed_part : {m : Bool} {n : ℕ} (p : List ℕ) → read_number m ≡ n → m ≡ true → [] ≡ shown_part n p
-malformed_part p e t = rw (sym e ∙ ap read_number t)
-
-pub sound_part : {m : Bool} {n : ℕ} {p q : List ℕ} → read_number m ≡ n → m ≡ false → q ≡ p → q ≡ shown_part n p
-sound_part e t f = rw (sym e ∙ ap read_number t) f
 
 pub read_yes : {m : Bool} → m ≡ false → read_number m ≡ 0
 read_yes e = ap read_number e
