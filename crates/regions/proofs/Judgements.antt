@@ -1,11 +1,13 @@
 -- Runs that have no bad region, and document 01's judgement.
-use Prim.Native.Nat.{ℕ, zero, suc, ◌<◌, ◌≤◌, ◌*◌}
-use mathlib.Core.Path.{◌≡◌, refl, ap, ◌∙◌}
-use mathlib.Core.Bool.{Bool, false}
+use Prim.Native.Nat.{ℕ, zero, suc, ◌<◌, ◌≤◌, ◌+◌, ◌*◌}
+use mathlib.Core.Path.{◌≡◌, refl, sym, ap, ◌∙◌}
+use mathlib.Core.Bool.{Bool, false, ◌||◌, or-false, or_assoc}
 use mathlib.Core.List.{List}
 use mathlib.Core.Logic.{⊎_elim}
 use native.Mathlib.Omega.{arith}
-use native.Mathlib.Nat.{eq-or-lt_of_le}
+use native.Mathlib.Nat.{eq-or-lt_of_le, add-zero, zero-add}
+use native.Mathlib.Numerals.{add-one}
+use Rattle.std.specs.List.{list_any, range_with_len}
 use borrow.Author.Tests.{ltb-true, ltb-false}
 use Rattle.laws.proofs.Tests.{or_no, or_left}
 use Rattle.regions.specs.declared.region.Region.{Region}
@@ -30,6 +32,22 @@ module _ (bad : Region → Bool) (l : List ℕ) where
   all_good zero h = refl
   all_good (suc n) h =
       or_left (bad (region_at l (region_length * n))) (all_good n (λ i k. let next : i < suc n = omega arith in h i next)) ∙ (let last : n < suc n = omega arith in h n last)
+
+  -- the regions from number a on are looked at in turn
+  from : (n a : ℕ) → any_region bad l (a + n) ≡ (any_region bad l a || list_any (λ i. bad (region_at l (region_length * i))) (range_with_len a n))
+  unfolding any_region
+  from zero a = rw (add-zero a, or-false)
+  from (suc n) a =
+      let rest : Bool = list_any (λ i. bad (region_at l (region_length * i))) (range_with_len (a + 1) n) in
+      let e : a + suc n ≡ a + 1 + n = omega arith in
+      ap (any_region bad l) e
+      ∙ from n (a + 1)
+      ∙ ap (λ (k : ℕ). any_region bad l k || rest) (add-one a)
+      ∙ or_assoc (any_region bad l a) (bad (region_at l (region_length * a))) rest
+
+  pub in_turn : (n : ℕ) → list_any (λ i. bad (region_at l (region_length * i))) (range_with_len 0 n) ≡ any_region bad l n
+  unfolding any_region
+  in_turn n = sym (from n 0) ∙ ap (any_region bad l) (zero-add n)
 
 -- ---- document 01's
 

@@ -1,11 +1,10 @@
 -- A region: what its writer wrote, its reader reads back; what its reader accepts, its writer writes again.
 use Prim.Native.Nat.{ℕ, ◌≤◌, ◌+◌, ◌*◌}
 use mathlib.Core.Path.{◌≡◌, refl, sym, ap, ◌∙◌}
-use mathlib.Core.Bool.{Bool, false, not, ◌||◌}
+use mathlib.Core.Bool.{false}
 use mathlib.Core.List.{List, [], ◌++◌, append-nil}
 use native.Mathlib.Omega.{arith}
 use native.Mathlib.Nat.{add_assoc, add-zero}
-use lib.Dec.{eqb}
 use lib.ListN.{length, take, drop, length-drop}
 use lib.Seq.{take-add, take_all, drop-drop}
 use Rattle.laws.proofs.Tests.{any_no, no_any, equal_no, no_equal}
@@ -13,7 +12,7 @@ use Rattle.octets.specs.Octets.{Bytes, number_at, bytes_of}
 use Rattle.octets.proofs.Numbers.{number_append, number_drop, number_take, read_written, written_read}
 use Rattle.refusal.specs.Steps.{outcome, reply}
 use Rattle.regions.specs.declared.region.Region.{Region}
-use Rattle.element_parts.specs.Parts.{read_number, item}
+use Rattle.element_parts.specs.Parts.{item}
 use Rattle.regions.specs.Region.{region_length, region_at, Addresses, Judgement, region_faults, region_number, region_bytes, region_write_step}
 use Rattle.element_parts.proofs.Verdicts.{read_yes, read_accepted, write_accepted, write_after, write_done}
 
@@ -60,12 +59,6 @@ module _ (j : Judgement) where
   pub region_accepted : (b : List ℕ) → length b ≡ region_length → j.bad_region (region_at b 0) ≡ false → region_number j b ≡ 0
   unfolding region_number
   region_accepted b l s = read_yes (no_any (region_faults j b) (equal_no l, (s, tt)))
-
-  -- the tests of the code, where u is its judgement of the region r
-  pub region_judged : (b : List ℕ) {r : Region} {u : Bool} → u ≡ j.bad_region r → r ≡ region_at b 0
-      → read_number (not (eqb (length b) region_length) || u) ≡ region_number j b
-  unfolding region_number
-  region_judged b e f = ap (λ (u : Bool). read_number (not (eqb (length b) region_length) || u)) (e ∙ ap j.bad_region f)
 
   -- ---- the round trips
 

@@ -1,23 +1,20 @@
 -- An R/W region: what its writer wrote, its reader reads back; what its reader accepts, its writer writes again.
-use Prim.Native.Nat.{ℕ, ◌<◌, ◌/◌, ◌%◌, ◌^◌}
+use Prim.Native.Nat.{ℕ, ◌/◌, ◌%◌, ◌^◌}
 use mathlib.Core.Path.{◌≡◌, refl, sym, ap, ◌∙◌}
-use mathlib.Core.Bool.{Bool, false, not, ◌||◌, or_assoc}
+use mathlib.Core.Bool.{Bool, false}
 use mathlib.Core.List.{List, [], ◌∷◌}
 use native.Mathlib.Omega.{arith}
-use borrow.Author.Tests.{le-ltb, lt-ltb}
-use lib.Dec.{eqb}
+use borrow.Author.Tests.{le-ltb}
 use lib.ListN.{length, get_or}
-use Rattle.laws.proofs.Tests.{any_no, no_any, or_no, or_left, or_yes, equal_no, no_equal}
+use Rattle.laws.proofs.Tests.{any_no, no_any, or_no, or_left, equal_no, no_equal}
 use Rattle.octets.specs.Octets.{Bytes}
 use Rattle.refusal.specs.Steps.{outcome, reply}
-use Rattle.regions.specs.declared.region.Region.{Region}
 use Rattle.regions.specs.declared.rw_region.RwRegion.{RwRegion}
-use Rattle.element_parts.specs.Parts.{read_number, write_number}
 use Rattle.regions.specs.Region.{region_at, Addresses, Judgement}
 use Rattle.regions.specs.RwRegion.{operation_number, bad_operation, rw_region_length, RwFields, rw_fields_of, rw_region_fields, rw_region_faults, rw_region_number, rw_fields_malformed, rw_region_bytes, rw_region_write_step}
-use Rattle.element_parts.proofs.Verdicts.{read_yes, read_accepted, write_malformed, write_accepted, write_after, write_done}
+use Rattle.element_parts.proofs.Verdicts.{read_yes, read_accepted, write_accepted, write_after, write_done}
 use Rattle.element_parts.proofs.Heads.{four_and_rest}
-use Rattle.regions.proofs.Operations.{operation_small, operation_good, operation_injective}
+use Rattle.regions.proofs.Operations.{operation_small, operation_injective}
 use Rattle.regions.proofs.Regions.{region_behind, region_rest}
 
 -- ---- an element that the reader accepts
@@ -48,35 +45,6 @@ module _ (j : Judgement) where
   unfolding rw_region_number
   rw_accepted b k =
       read_yes (no_any (rw_region_faults j b) (equal_no k.long, (equal_no k.high, (equal_no k.zero1, (equal_no k.zero2, (equal_no k.zero3, (k.sound, tt)))))))
-
-  -- the tests of the code, where b0 to b3 are the bytes that it read, and u its judgement of the region r
-  pub rw_judged : (b : List ℕ) {r : Region} {u : Bool} {b0 b1 b2 b3 : ℕ} → u ≡ j.bad_region r → r ≡ region_at b 4
-      → b0 ≡ get_or b 0 0 → b1 ≡ get_or b 1 0 → b2 ≡ get_or b 2 0 → b3 ≡ get_or b 3 0
-      → read_number (
-      not (eqb (length b) rw_region_length) || not (eqb (b0 / 2 ^ 2) 0) || not (eqb b1 0) || not (eqb b2 0) || not (eqb b3 0) || u
-      )
-      ≡ rw_region_number j b
-  unfolding rw_region_number
-  rw_judged b e f e0 e1 e2 e3 =
-      let last = e ∙ ap j.bad_region f in
-      (λ i. read_number (
-      not (eqb (length b) rw_region_length)
-      || not (eqb (e0 i / 2 ^ 2) 0)
-      || not (eqb (e1 i) 0)
-      || not (eqb (e2 i) 0)
-      || not (eqb (e3 i) 0)
-      || last i
-      ))
-      ∙ simp or_assoc
-
-  -- what the code asks of the fields of r, whose operation has a number that two bits hold
-  pub rw_fields : (r : RwRegion) {u : Bool} (k n : ℕ) → u ≡ j.bad_region r.region
-      → write_number u n k ≡ write_number (rw_fields_malformed j (rw_fields_of r)) n k
-  rw_fields r k n e = λ i. write_number ((e ∙ sym (or_left (j.bad_region r.region) (operation_good r.operation))) i) n k
-
-  -- an operation that two bits don't hold
-  pub rw_undefined : (f : RwFields) (buffer : List ℕ) → 3 < f.operation → outcome 12 buffer ≡ rw_region_write_step j f buffer
-  rw_undefined f buffer h = write_malformed (rw_region_bytes f) buffer (or_yes (j.bad_region f.region) (lt-ltb 3 f.operation h))
 
   -- ---- the round trips
 

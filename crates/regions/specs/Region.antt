@@ -4,8 +4,6 @@ use Rattle.octets.specs.Octets.{number_at, bytes_of}
 use Rattle.laws.specs.Tests.{any}
 use Rattle.refusal.specs.Steps.{Outcome, Reply, reply}
 use Rattle.regions.specs.declared.region.Region.{Region}
-use Rattle.regions.specs.declared.region.RegionRead.{RegionRead}
-use Rattle.regions.specs.declared.region.RegionRead.TheVariants.{Read, Malformed}
 use Rattle.element_parts.specs.Parts.{read_number, write_step, item}
 
 abbrev pub region_length : ℕ
@@ -50,10 +48,6 @@ abbrev pub end_is_last : Judgement
 end_is_last = record { bad_region = start_above_end; bad_regions = any_region start_above_end }
 
 -- ---- the reader
-
-abbrev pub region_reply : RegionRead → Reply Region
-region_reply (Read r) = record { number = 0; values = r ∷ [] }
-region_reply Malformed = record { number = 12; values = [] }
 
 abbrev pub region_faults : Judgement → List ℕ → List Bool
 region_faults j b =

@@ -2,15 +2,11 @@
 -- is shown as reserved), three zero bytes, region".
 use Rattle.std.specs.Prelude.{ℕ, ◌/◌, ◌%◌, ◌^◌, Bool, not, ◌||◌, List, [], ◌∷◌, length, get_or, ltb, eqb}
 use Rattle.laws.specs.Tests.{any}
-use Rattle.refusal.specs.Steps.{Outcome, Reply}
+use Rattle.refusal.specs.Steps.{Outcome}
 use Rattle.regions.specs.declared.rw_region.Operation.{Operation}
 use Rattle.regions.specs.declared.rw_region.Operation.TheVariants.{Nothing, Restore, Erase, Reserved}
-use Rattle.regions.specs.declared.rw_region.OperationRead.{OperationRead}
-use Rattle.regions.specs.declared.rw_region.OperationRead.TheVariants.{Defined, Undefined}
 use Rattle.regions.specs.declared.region.Region.{Region}
 use Rattle.regions.specs.declared.rw_region.RwRegion.{RwRegion}
-use Rattle.regions.specs.declared.rw_region.RwRegionRead.{RwRegionRead}
-use Rattle.regions.specs.declared.rw_region.RwRegionRead.TheVariants.{Read, Malformed}
 use Rattle.element_parts.specs.Parts.{read_number, write_step}
 use Rattle.regions.specs.Region.{region_at, Judgement, region_bytes}
 
@@ -29,11 +25,6 @@ operation_number Reserved = 3
 abbrev pub bad_operation : ℕ → Bool
 bad_operation n = ltb 3 n
 
--- what a number handed in stands for: the operation with that number, and 12 where there is none
-abbrev pub operation_reply : OperationRead → Reply ℕ
-operation_reply (Defined o) = record { number = 0; values = operation_number o ∷ [] }
-operation_reply Undefined = record { number = 12; values = [] }
-
 -- ---- the fields, with the operation by its number
 
 pub record RwFields : Type 0 where
@@ -44,10 +35,6 @@ abbrev pub rw_fields_of : RwRegion → RwFields
 rw_fields_of r = record { operation = operation_number r.operation; region = r.region }
 
 -- ---- the reader
-
-abbrev pub rw_region_reply : RwRegionRead → Reply RwFields
-rw_region_reply (Read r) = record { number = 0; values = rw_fields_of r ∷ [] }
-rw_region_reply Malformed = record { number = 12; values = [] }
 
 -- the two low bits of the first byte, and the region from index 4 on
 abbrev pub rw_region_fields : List ℕ → RwFields

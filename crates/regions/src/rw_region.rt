@@ -1,15 +1,16 @@
 // An R/W region (002, RWRegion): a part of flash that holds R/W data, and what is done with it when an update fails authentication.
-ghost use Rattle.std.specs.Prelude.{◌≡◌, ◌%◌, ◌^◌};
+ghost use Rattle.std.specs.Prelude.{◌≡◌};
 ghost use Rattle.refusal.specs.Refusals.{number_of};
-ghost use Rattle.refusal.specs.Steps.{outcome, reply};
+ghost use Rattle.refusal.specs.Steps.{outcome, reply, reply_by};
 ghost use Rattle.element_parts.specs.Parts.{read_number};
 ghost use Rattle.regions.specs.Region.{end_is_last};
-ghost use Rattle.regions.specs.RwRegion.{operation_number, bad_operation, operation_reply, rw_fields_of, rw_region_reply, rw_region_fields, rw_region_number, rw_region_write_step};
+ghost use Rattle.regions.specs.RwRegion.{operation_number, bad_operation, rw_fields_of, rw_region_fields, rw_region_number, rw_region_write_step};
 
 use crate::region::Region;
-use refusal::Verdict;
+use element_parts::write_verdict;
+use refusal::Refusal;
 
-#[derive(Clone, Copy)]
+#[derive(Clone, Copy, Debug, PartialEq, Eq, Hash)]
 pub enum Operation {
     Nothing,
     Restore,
@@ -18,23 +19,10 @@ pub enum Operation {
     Reserved,
 }
 
-// What a number handed in stands for: one that two bits can't hold is no operation.
-#[derive(Clone, Copy)]
-pub enum OperationRead {
-    Defined(Operation),
-    Undefined,
-}
-
-#[derive(Clone, Copy)]
+#[derive(Clone, Copy, Debug, PartialEq, Eq, Hash)]
 pub struct RwRegion {
     pub operation: Operation,
     pub region: Region,
-}
-
-#[derive(Clone, Copy)]
-pub enum RwRegionRead {
-    Read(RwRegion),
-    Malformed,
 }
 
 impl Operation {
@@ -48,25 +36,21 @@ impl Operation {
             Operation::Reserved => 3,
         }
     }
+}
 
-    pub fn of_number(number: u8) -> OperationRead
-        ensures { operation_reply result ≡ reply (read_number (bad_operation number)) number }
-    {
-        if 3 < number {
-            return OperationRead::Undefined;
-        }
-        OperationRead::Defined(Operation::of_bits(number))
-    }
+// One that two bits can't hold is no operation.
+impl TryFrom<u8> for Operation {
+    type Error = Refusal;
 
-    // The operation in the two low bits.
-    pub(crate) fn of_bits(bits: u8) -> Operation
-        ensures { operation_number result ≡ bits % 2 ^ 2 }
-    {
-        match bits & 3 {
-            0 => Operation::Nothing,
-            1 => Operation::Restore,
-            2 => Operation::Erase,
-            _ => Operation::Reserved,
+    ghost try_from_gives = { λ number answer. reply_by operation_number answer ≡ reply (read_number (bad_operation number)) number };
+
+    fn try_from(number: u8) -> Result<Operation, Refusal> {
+        match number {
+            0 => Ok(Operation::Nothing),
+            1 => Ok(Operation::Restore),
+            2 => Ok(Operation::Erase),
+            3 => Ok(Operation::Reserved),
+            _ => Err(Refusal::MalformedElement),
         }
     }
 }
@@ -74,46 +58,26 @@ impl Operation {
 impl RwRegion {
     pub const LEN: usize = 12;
 
-    // The bytes before the region.
-    const HEAD_LEN: usize = 4;
-
-    pub fn read(element: &[u8]) -> RwRegionRead
-        ensures { rw_region_reply result ≡ reply (rw_region_number end_is_last element.now) (rw_region_fields element.now) }
+    #[tactic(auto, unfolding(crate::specs::Region::region_number, crate::specs::RwRegion::rw_region_number))]
+    pub fn read(element: &[u8]) -> Result<RwRegion, Refusal>
+        ensures { reply_by rw_fields_of result ≡ reply (rw_region_number end_is_last element.now) (rw_region_fields element.now) }
     {
-        if RwRegion::malformed(element) {
-            return RwRegionRead::Malformed;
-        }
-        RwRegionRead::Read(RwRegion {
-            operation: Operation::of_bits(octets::byte_at(element, 0)),
-            region: Region::at(element, RwRegion::HEAD_LEN),
+        let [operation, 0, 0, 0, region @ ..] = element else {
+            return Err(Refusal::MalformedElement);
+        };
+        Ok(RwRegion {
+            operation: Operation::try_from(*operation)?,
+            region: Region::read(region)?,
         })
     }
 
-    pub fn write(self, buffer: &mut [u8]) -> Verdict
+    pub fn write(self, buffer: &mut [u8]) -> Result<(), Refusal>
         ensures { outcome (number_of result) buffer.new ≡ rw_region_write_step end_is_last (rw_fields_of self) buffer.old }
     {
-        let operation = self.operation;
-        let region = self.region;
-        let verdict = element_parts::write_verdict(region.unsound(), RwRegion::LEN, buffer.len());
-        let Verdict::Accepted = verdict else {
-            return verdict;
-        };
-        let head = [operation.number(), 0, 0, 0];
-        let bytes = region.bytes();
+        write_verdict(self.region.unsound(), RwRegion::LEN, buffer.len())?;
+        let head = [self.operation.number(), 0, 0, 0];
         octets::put(buffer, 0, &head);
-        octets::put(buffer, RwRegion::HEAD_LEN, &bytes);
-        verdict
-    }
-
-    fn malformed(element: &[u8]) -> bool
-        ensures { read_number result ≡ rw_region_number end_is_last element.now }
-    {
-        let region = Region::at(element, RwRegion::HEAD_LEN);
-        (element.len() != RwRegion::LEN)
-            | (octets::byte_at(element, 0) >> 2 != 0)
-            | (octets::byte_at(element, 1) != 0)
-            | (octets::byte_at(element, 2) != 0)
-            | (octets::byte_at(element, 3) != 0)
-            | region.unsound()
+        octets::put(buffer, head.len(), &self.region.bytes());
+        Ok(())
     }
 }

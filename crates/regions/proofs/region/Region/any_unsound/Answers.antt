@@ -1,17 +1,12 @@
-use mathlib.Core.Path.{refl, sym, ap, ◌∙◌}
-use native.Mathlib.Omega.{arith}
-use mathlib.Core.Bool.{◌||◌}
-use native.Mathlib.Numerals.{add-one}
-use Rattle.regions.specs.Region.{any_region, start_above_end}
+use Rattle.std.proofs.Common.{◌*◌, ◌∙◌, arith, rules, refl}
+use Rattle.std.proofs.lemmas.Iterator.{YieldsList-from_range}
+use Rattle.std.proofs.lemmas.Iterator.Search.{any_from_yields_List}
+use Rattle.regions.specs.Region.{region_at, region_length, start_above_end}
+use Rattle.regions.proofs.Judgements.{in_turn}
 use Rattle.regions.proofs.region.Region.any_unsound.Goals as goal
 
-pub loop-i-init : goal.loop-i-init
-unfolding any_region
-loop-i-init c = (omega arith, refl)
-
-pub loop-i-preserved : goal.loop-i-preserved
-unfolding any_region
-loop-i-preserved c =
-    let l = c.loop-i in
-    let bad = c.unsound-unsound.ensures ∙ ap start_above_end c.at-region.ensures in
-    (omega arith, (λ i. l.invariant.1 i || bad i) ∙ ap (any_region start_above_end c.args.run.now) (sym (add-one l.i)))
+pub returns : goal.returns
+returns c =
+    let run = c.args.run.now in
+    any_from_yields_List (λ i. start_above_end (region_at run (region_length * i))) _ _ c.any.result c.any.ensures.ran (YieldsList-from_range 0 c.args.n c.args.n refl (omega arith)) (λ x b q k. search rules)
+    ∙ in_turn start_above_end run c.args.n
