@@ -1,24 +1,18 @@
--- Which number the calls give, and what they answer and leave with it.
+-- Which number the calls give, and whether a message is told to have a hash.
 use Prim.Native.Nat.{ℕ, ◌^◌, ◌<◌, ◌≤◌}
-use mathlib.Core.Path.{◌≡◌, sym, ap, ◌∙◌}
+use mathlib.Core.Path.{◌≡◌, sym, ◌∙◌}
 use mathlib.Core.Bool.{false, not}
 use mathlib.Core.List.{List}
 use native.Mathlib.Omega.{arith}
 use lib.Dec.{eqb}
-use lib.ListN.{length, take}
+use lib.ListN.{length}
 use borrow.Author.Tests.{le-ltb, ltb-false, eq-eqb, leb-false}
-use Rattle.refusal.specs.declared.Verdict.{Verdict}
-use Rattle.refusal.specs.declared.Verdict.TheVariants.{Accepted}
-use Rattle.refusal.specs.Refusals.{number_of}
 use Rattle.refusal.specs.Rules.{◌when◌else◌}
-use Rattle.refusal.proofs.Laws.{when_no, when_accepted, accepted_yes, accepted_no, says_yes}
-use Rattle.refusal.proofs.Steps.{decided_refused, decided_accepted}
+use Rattle.refusal.proofs.Laws.{when_no, when_accepted, accepted_yes, accepted_no}
 use Rattle.laws.proofs.Tests.{and_right, equal_no, no_equal}
-use Rattle.octets.specs.Octets.{same_bytes, padded, pasted}
-use Rattle.octets.proofs.Buffers.{pasted_whole}
+use Rattle.octets.specs.Octets.{same_bytes}
 use Rattle.hash.specs.Types.{hash_length, hash_of, bad_hash_type}
 use Rattle.hash.specs.Calls.{too_long, hash_number, hash_matches}
-use Rattle.hash.proofs.Types.{length_bound, hash_long, hash_cut}
 
 module _ (t n k : ℕ) where
   -- the type is defined and the buffer has its length
@@ -44,44 +38,10 @@ pub short_is : (t n : ℕ) → t ≡ 0 → too_long t n ≡ false → n < 2 ^ 61
 short_is t n z e = leb-false (2 ^ 61) n (sym (and_right _ (eq-eqb t 0 z)) ∙ e)
 
 module _ (t : ℕ) (m b : List ℕ) where
-  abbrev number : ℕ
-  number = hash_number t (length m) (length b)
-
-  -- what is known of a call that was accepted
-  pub record HashAccepted : Type 0 where
-    pub none : number ≡ 0
-    pub fits : length b ≡ hash_length t
-    pub bound : length b ≤ 64
-    -- the type and the message are accepted with a buffer of the type's own length too
-    pub own : hash_number t (length m) (hash_length t) ≡ 0
-
-  pub hash_accepted : {v : Verdict} → number_of v ≡ number → v ≡ Accepted → HashAccepted
-  hash_accepted e f =
-      let z = says_yes e f in
-      let k = (number_accepts t (length m) (length b) z).fits in
-      record { none = z; fits = k; bound = omega (arith, k, length_bound t); own = ap (hash_number t (length m)) (sym k) ∙ z }
-
-  pub matches_refused : 0 < number → false ≡ hash_matches t m b
+  pub matches_refused : 0 < hash_number t (length m) (length b) → false ≡ hash_matches t m b
   unfolding hash_matches
   matches_refused h = sym (accepted_no (same_bytes (hash_of t m) b) false h)
 
-  pub matches_accepted : number ≡ 0 → same_bytes (hash_of t m) b ≡ hash_matches t m b
+  pub matches_accepted : hash_number t (length m) (length b) ≡ 0 → same_bytes (hash_of t m) b ≡ hash_matches t m b
   unfolding hash_matches
   matches_accepted h = sym (accepted_yes (same_bytes (hash_of t m) b) false h)
-
-  -- an accepted call's hash, from the 64 bytes that it stands at the front of: it fills the buffer, and is what the buffer is compared with
-  module _ (known : HashAccepted) {r : List ℕ} (e : r ≡ padded 64 (hash_of t m)) where
-    cut : take (length b) r ≡ hash_of t m
-    cut = hash_cut t m (length b) known.fits e
-
-    pub hash_length_cut : length b ≡ length (take (length b) r)
-    hash_length_cut = known.fits ∙ sym (ap length cut ∙ hash_long t m)
-
-    pub hash_filled : pasted b 0 (take (length b) r) ≡ hash_of t m
-    hash_filled = pasted_whole b _ (sym hash_length_cut) ∙ cut
-
-    pub hash_compared : same_bytes (take (length b) r) b ≡ hash_matches t m b
-    hash_compared = ap (λ (h : List ℕ). same_bytes h b) cut ∙ matches_accepted known.none
-
--- what the calls that take a message cite
-pub ruleset hash_calls = (hash_accepted, hash_length_cut, hash_filled, hash_compared, decided_refused, decided_accepted)

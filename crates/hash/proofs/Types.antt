@@ -4,10 +4,8 @@ use mathlib.Core.Path.{◌≡◌, sym, ap, ◌∙◌}
 use mathlib.Core.List.{List, []}
 use native.Mathlib.Omega.{arith}
 use lib.Dec.{lit<, lit≤}
-use lib.ListN.{length, take}
-use lib.Seq.{take_at}
+use lib.ListN.{length}
 use borrow.Author.Tests.{ne_eqb}
-use Rattle.octets.specs.Octets.{zeros, padded}
 use Rattle.fips180.specs.Sha256.{sha256}
 use Rattle.fips180.specs.Sha512.{sha384, sha512}
 use Rattle.fips180.proofs.Digest.{sha256_length, sha384_length, sha512_length}
@@ -38,7 +36,3 @@ hash_long (suc (suc zero)) m = sha512_length m
 hash_long (suc (suc (suc t))) m =
     let h : 2 < suc (suc (suc t)) = omega arith in
     ap length (type_none (suc (suc (suc t))) (sha256 m) (sha384 m) (sha512 m) [] h) ∙ sym (type_none {A = ℕ} (suc (suc (suc t))) 32 48 64 0 h)
-
--- the hash at the front of 64 bytes
-pub hash_cut : {b : List ℕ} (t : ℕ) (m : List ℕ) (k : ℕ) → k ≡ hash_length t → b ≡ padded 64 (hash_of t m) → take k b ≡ hash_of t m
-hash_cut t m k e p = ap (take k) p ∙ take_at (hash_of t m) (zeros _) k (hash_long t m ∙ sym e)
