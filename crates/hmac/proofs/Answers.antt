@@ -1,19 +1,22 @@
--- Which keys and texts `hmac_sha256` accepts, and what it answers for them.
-use Prim.Native.Nat.{ℕ, ◌+◌, ◌^◌, ◌<◌}
-use mathlib.Core.Path.{◌≡◌, ◌∙◌}
-use mathlib.Core.List.{List}
-use lib.ListN.{length}
-use borrow.Author.Tests.{lt-leb}
-use Rattle.refusal.proofs.Laws.{when_no}
+-- What `hmac_sha256` answers, from what its calls answered.
+use Prim.Native.Nat.{ℕ}
+use mathlib.Core.Path.{◌≡◌}
+use mathlib.Core.List.{List, ◌++◌}
+use native.Mathlib.Omega.{arith}
+use lib.ListN.{length, replicate, length-append}
+use Rattle.std.specs.Prelude.{Ok}
+use Rattle.refusal.specs.Steps.{reply, reply_of}
 use Rattle.fips180.specs.Family.{block_bytes}
-use Rattle.fips180.specs.Sha256.{family32}
-use Rattle.hmac.specs.HmacSha256.{hmac_sha256, hmac_number, hmac_mac}
+use Rattle.fips180.specs.Sha256.{family32, sha256}
+use Rattle.sha256.specs.Sha256.{sha256_number, sha256_reply}
+use Rattle.hmac.specs.Hmac.{◌⊕◌, K₀}
+use Rattle.hmac.specs.HmacSha256.{hmac_number, hmac_reply}
+use Rattle.hmac.proofs.Parts.{mac_of_parts}
 
 module _ (key text : List ℕ) where
-  pub number_accepted : length key < 2 ^ 61 → 64 + length text < 2 ^ 61 → hmac_number key text ≡ 0
-  unfolding hmac_number block_bytes family32
-  number_accepted h l = when_no 2 _ (lt-leb (2 ^ 61) (length key) h) ∙ when_no 2 0 (lt-leb (2 ^ 61) (64 + length text) l)
-
-  pub mac_accepted : hmac_number key text ≡ 0 → hmac_mac key text ≡ hmac_sha256 key text
-  unfolding hmac_mac
-  mac_accepted e = rw e
+  -- the code's values: the padded key k, with either pad x and y, and the inner digest i
+  pub mac_made : (k x i y : List ℕ) → reply_of (Ok k) ≡ reply (sha256_number key) (K₀ 64 sha256 key)
+      → x ≡ k ⊕ replicate 64 0x36 → length x ≡ 64 → reply_of (Ok i) ≡ sha256_reply (x ++ text) → length i ≡ 32
+      → y ≡ k ⊕ replicate 64 0x5c → length y ≡ 64 → sha256_reply (y ++ i) ≡ hmac_reply key text
+  unfolding sha256_number hmac_number block_bytes family32
+  mac_made k x i y e f lx g li h ly = grind (arith, mac_of_parts, length-append)

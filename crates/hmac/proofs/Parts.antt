@@ -1,21 +1,18 @@
 -- The parts of an HMAC, for any hash function and block size; and HMAC-SHA-256 from its parts.
-use Prim.Native.Nat.{ℕ, zero, suc, ◌+◌, ◌^◌, ◌<◌, ◌≤◌}
+use Prim.Native.Nat.{ℕ, zero, suc, ◌<◌, ◌≤◌}
 use mathlib.Core.Path.{◌≡◌, refl, sym, ap, ◌∙◌}
 use mathlib.Core.List.{List, [], ◌∷◌, ◌++◌}
 use native.Mathlib.Nat.{le_of_suc-le-suc, not-suc-le-zero}
 use native.Mathlib.Omega.{arith}
 use lib.Bits.{bit_xor}
-use lib.ListN.{length, get_or, set, take, replicate, length-replicate, get_or-replicate}
-use lib.Seq.{take-suc, take_all}
+use lib.ListN.{length, get_or, replicate, length-replicate, get_or-replicate}
 use borrow.Author.Tests.{lt-ltb, le-ltb}
-use Rattle.laws.proofs.Lists.{store_next}
+use Rattle.std.proofs.lemmas.Grind.{same_number_lists}
 use Rattle.octets.specs.Octets.{padded, replaced_by}
 use Rattle.octets.proofs.Buffers.{replaced_fits}
 use Rattle.fips180.specs.Family.{block_bytes}
 use Rattle.fips180.specs.Sha256.{family32, sha256}
 use Rattle.fips180.proofs.Digest.{sha256_length}
-use Rattle.sha256.specs.Sha256.{sha256_digest}
-use Rattle.sha256.proofs.Laws.{digest_accepted}
 use Rattle.hmac.specs.Hmac.{◌⊕◌, K₀, ipad, opad, hmac}
 use Rattle.hmac.specs.HmacSha256.{hmac_sha256}
 
@@ -55,28 +52,20 @@ mac_length key text = sha256_length _
 
 -- ---- as code makes them
 
-module _ (n : ℕ) (b : List ℕ) (whole : length b ≡ n) (pad : ℕ) where
-  pub length_pads : length (b ⊕ replicate n pad) ≡ n
-  length_pads = length_xor b (replicate n pad) (whole ∙ sym (length-replicate n pad)) ∙ whole
-
-  pub pads_next : (out : List ℕ) (i : ℕ) → i < n → i < length out → take i out ≡ take i (b ⊕ replicate n pad)
-      → take (i + 1) (set out i (bit_xor (get_or b i 0) pad)) ≡ take (i + 1) (b ⊕ replicate n pad)
-  pads_next out i h l e =
-      let d : List ℕ = b ⊕ replicate n pad in
-      let w = length_pads in
-      let p = length-replicate n pad in
-      store_next (λ k. take k d) out i _ l e
-      (take-suc d i 0 (omega arith)
-      ∙ ap (λ (x : ℕ). take i d ++ (x ∷ []))
-      (get_d_xor b (replicate n pad) i (omega arith) (omega arith) ∙ ap (bit_xor (get_or b i 0)) (get_or-replicate n i pad 0 h)))
-
-  pub pads_all : (out : List ℕ) (i : ℕ) → n ≤ i → length out ≡ n → take i out ≡ take i (b ⊕ replicate n pad) → out ≡ b ⊕ replicate n pad
-  pads_all out i h l e = let w = length_pads in sym (take_all i out (omega arith)) ∙ e ∙ take_all i (b ⊕ replicate n pad) (omega arith)
+-- a block with each byte changed by the pad
+pub padded_block : (b out : List ℕ) (n pad : ℕ) → length b ≡ n → length out ≡ n → ((k : ℕ) → k < n → get_or out k 0 ≡ bit_xor (get_or b k 0) pad)
+    → out ≡ b ⊕ replicate n pad
+padded_block b out n pad whole long each =
+    let pads = length-replicate n pad in
+    let padded = length_xor b (replicate n pad) (whole ∙ sym pads) in
+    same_number_lists out (b ⊕ replicate n pad) (long ∙ sym (padded ∙ whole))
+    (λ k h.
+    each k (omega arith)
+    ∙ sym (get_d_xor b (replicate n pad) k (omega arith) (omega arith) ∙ ap (bit_xor (get_or b k 0)) (get_or-replicate n k pad 0 (omega arith))))
 
 module _ {b : List ℕ} (key : List ℕ) where
-  pub key_hashed : {d : List ℕ} → length key < 2 ^ 61 → 64 < length key → d ≡ sha256_digest key → b ≡ replaced_by (replicate 64 0) d → b ≡ K₀ 64 sha256 key
-  key_hashed {d = d} s h e p =
-      let is = e ∙ digest_accepted key s in
+  pub key_hashed : {d : List ℕ} → 64 < length key → d ≡ sha256 key → b ≡ replaced_by (replicate 64 0) d → b ≡ K₀ 64 sha256 key
+  key_hashed {d = d} h is p =
       let l = ap length is ∙ sha256_length key in
       p ∙ replaced_fits (replicate 64 0) d (omega arith) ∙ ap (padded 64) is ∙ sym (key_long 64 sha256 key h)
 

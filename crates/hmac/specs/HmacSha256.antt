@@ -1,6 +1,7 @@
 -- HMAC-SHA-256, and what `hmac_sha256` answers. Document 02, Item 14: "HMAC is by FIPS 198-1", and "Keys are lent, of any length below 2^61 bytes (else 2)".
-use Rattle.std.specs.Prelude.{ℕ, ◌+◌, ◌^◌, List, length, replicate, leb}
-use Rattle.refusal.specs.Rules.{◌when◌else◌, accepted◌then◌else◌}
+use Rattle.std.specs.Prelude.{ℕ, ◌+◌, ◌^◌, List, length, leb}
+use Rattle.refusal.specs.Rules.{◌when◌else◌}
+use Rattle.refusal.specs.Steps.{Reply, reply}
 use Rattle.fips180.specs.Family.{block_bytes}
 use Rattle.fips180.specs.Sha256.{family32, sha256}
 use Rattle.hmac.specs.Hmac.{hmac}
@@ -15,6 +16,6 @@ hmac_number key text =
     2 when leb (2 ^ 61) (block_bytes family32 + length text) else
     0
 
--- the MAC, and 32 zero bytes beside a refusal
-unfoldable pub hmac_mac : List ℕ → List ℕ → List ℕ
-hmac_mac key text = accepted hmac_number key text then hmac_sha256 key text else replicate 32 0
+-- the MAC
+abbrev pub hmac_reply : List ℕ → List ℕ → Reply (List ℕ)
+hmac_reply key text = reply (hmac_number key text) (hmac_sha256 key text)

@@ -1,9 +1,10 @@
-use Rattle.std.proofs.Common.{◌≡◌, ◌≤◌, ◌-◌, length, take, replicate}
-use Rattle.hmac.specs.Hmac.{◌⊕◌}
+use Rattle.std.proofs.Common.{◌≡◌, ◌<◌, ◌≤◌, ℕ, length, get_or, bit_xor}
 use Rattle.hmac.proofs.padded_with.Given as goal
 
-abbrev pub invariant-loop-i : goal.invariant-loop-i
-invariant-loop-i l = (l.i ≤ 64) × ((length l.out ≡ 64) × (take l.i l.out ≡ take l.i (l.block ⊕ replicate 64 l.pad)))
-
-abbrev pub decreases-loop-i : goal.decreases-loop-i
-decreases-loop-i l = 64 - l.i
+-- the bytes before the index are padded, the others still to come
+abbrev pub invariant-loop-byte : goal.invariant-loop-byte
+invariant-loop-byte l =
+    let out = l.byte-items in
+    (length out ≡ 64)
+    × ((k : ℕ) → k < l.byte-index → get_or out k 0 ≡ bit_xor (get_or l.fn.block k 0) l.pad)
+    × ((k : ℕ) → l.byte-index ≤ k → get_or out k 0 ≡ get_or l.fn.block k 0)
