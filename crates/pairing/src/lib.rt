@@ -4,13 +4,13 @@
 
 ghost use Rattle.std.specs.Prelude.{◌≡◌, []};
 ghost use Rattle.refusal.specs.Refusals.{number_of};
-ghost use Rattle.refusal.specs.Steps.{outcome};
-ghost use Rattle.hmac.specs.HmacSha256.{hmac_number, hmac_mac};
+ghost use Rattle.refusal.specs.Steps.{outcome, reply_of};
+ghost use Rattle.hmac.specs.HmacSha256.{hmac_reply};
 ghost use Rattle.pairing.specs.CounterMode.{input_data};
 ghost use Rattle.pairing.specs.Pairing.{label, pairing_step};
 
-use hmac::{Mac, hmac_sha256};
-use refusal::{Refusal, Verdict};
+use hmac::hmac_sha256;
+use refusal::Refusal;
 
 pub const KEY_LEN: usize = 32;
 
@@ -22,9 +22,9 @@ const LABEL: [u8; 7] = *b"pairing";
 const LENGTH: [u8; 4] = [0, 0, 1, 0];
 
 // K(1): the MAC of the counter, the label, a zero byte, which is not written since it is there, and the length.
-fn first_iteration(session_key: &[u8]) -> Mac
-    ensures verdict { number_of result.verdict ≡ hmac_number session_key.now (input_data label [] 256 1) }
-    ensures mac { result.mac ≡ hmac_mac session_key.now (input_data label [] 256 1) }
+#[tactic(auto, unfolding(crate::specs::Pairing::label, crate::specs::CounterMode::input_data, fips180::specs::Padding::big_endian))]
+fn first_iteration(session_key: &[u8]) -> Result<[u8; 32], Refusal>
+    ensures { reply_of result ≡ hmac_reply session_key.now (input_data label [] 256 1) }
 {
     let mut data = [0u8; 16];
     octets::put(&mut data, 0, &COUNTER);
@@ -34,18 +34,13 @@ fn first_iteration(session_key: &[u8]) -> Mac
 }
 
 // Puts the pairing key into `out`.
-pub fn pairing_key(session_key: &[u8], out: &mut [u8]) -> Verdict
+#[tactic(auto, using(crate::proofs::Derivation::buffer_refused, crate::proofs::Derivation::key_decides), unfolding(crate::specs::Pairing::pairing_step))]
+pub fn pairing_key(session_key: &[u8], out: &mut [u8]) -> Result<(), Refusal>
     ensures { outcome (number_of result) out.new ≡ pairing_step session_key.now out.old }
 {
     if out.len() != KEY_LEN {
-        return Verdict::Refused(Refusal::WrongBuffer);
+        return Err(Refusal::WrongBuffer);
     }
-    let derived = first_iteration(session_key);
-    let verdict = derived.verdict;
-    if let Verdict::Refused(_) = verdict {
-        return verdict;
-    }
-    let key = derived.mac;
-    octets::put(out, 0, &key);
-    verdict
+    octets::put(out, 0, &first_iteration(session_key)?);
+    Ok(())
 }
