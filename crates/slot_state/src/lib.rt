@@ -11,7 +11,7 @@ ghost use Rattle.slot_state.specs.State.{outside};
 ghost use Rattle.slot_state.specs.Rules.{open_number};
 
 use manifest_header::VersionId;
-use refusal::{Refusal, Verdict};
+use refusal::Refusal;
 pub use rules::{length_verdict, total_verdict};
 
 // The length of each of a slot's two buffers.
@@ -21,14 +21,14 @@ pub const BUFFER_LEN: usize = 4096;
 pub const SHORTEST: usize = 13;
 
 // The active manifest: length 0 and id 0 where there is none.
-#[derive(Clone, Copy)]
+#[derive(Clone, Copy, Debug, PartialEq, Eq, Hash)]
 pub struct Active {
     pub length: usize,
     pub id: VersionId,
 }
 
 // The manifest that is arriving.
-#[derive(Clone, Copy)]
+#[derive(Clone, Copy, Debug, PartialEq, Eq, Hash)]
 pub enum Transfer {
     Idle,
     Receiving { total: usize, received: usize },
@@ -38,21 +38,16 @@ pub enum Transfer {
 pub fn outside(low: usize, high: usize, n: usize) -> bool
     ensures { result ≡ outside low high n }
 {
-    if n < low {
-        return true;
-    }
-    high < n
+    !(low..=high).contains(&n)
 }
 
-// Refusal 3 where a buffer has another length.
-pub fn buffers_verdict(pending: &[u8], active: &[u8]) -> Verdict
+// Refusal 3 where a buffer has another length. The pair is no struct: which of the two may be written differs from call to call.
+#[tactic(auto, unfolding(crate::specs::Rules::open_number))]
+pub fn buffers_verdict(pending: &[u8], active: &[u8]) -> Result<(), Refusal>
     ensures { number_of result ≡ open_number pending.now active.now }
 {
-    if pending.len() != BUFFER_LEN {
-        return Verdict::Refused(Refusal::WrongBuffer);
+    if pending.len() != BUFFER_LEN || active.len() != BUFFER_LEN {
+        return Err(Refusal::WrongBuffer);
     }
-    if active.len() != BUFFER_LEN {
-        return Verdict::Refused(Refusal::WrongBuffer);
-    }
-    Verdict::Accepted
+    Ok(())
 }

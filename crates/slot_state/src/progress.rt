@@ -11,7 +11,7 @@ impl Transfer {
     {
         match self {
             Transfer::Idle => 0,
-            Transfer::Receiving { total, received: _ } => total,
+            Transfer::Receiving { total, .. } => total,
         }
     }
 
@@ -21,20 +21,14 @@ impl Transfer {
     {
         match self {
             Transfer::Idle => 0,
-            Transfer::Receiving { total: _, received } => received,
+            Transfer::Receiving { received, .. } => received,
         }
     }
 
     pub fn is_idle(self) -> bool
         ensures { result ≡ is_idle self }
     {
-        match self {
-            Transfer::Idle => true,
-            Transfer::Receiving {
-                total: _,
-                received: _,
-            } => false,
-        }
+        matches!(self, Transfer::Idle)
     }
 
     // Idle, or bytes are still to come.
@@ -53,13 +47,7 @@ impl Transfer {
     {
         match self {
             Transfer::Idle => false,
-            Transfer::Receiving { total, received } => {
-                if received < total {
-                    total - received < n
-                } else {
-                    0 < n
-                }
-            }
+            Transfer::Receiving { total, received } => total.saturating_sub(received) < n,
         }
     }
 }

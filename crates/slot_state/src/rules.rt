@@ -5,39 +5,41 @@ ghost use Rattle.refusal.specs.Rules.{◌when◌else◌};
 ghost use Rattle.slot_state.specs.Rules.{prepare_rule, update_rule};
 
 use crate::{BUFFER_LEN, SHORTEST, Transfer, outside};
-use refusal::{Refusal, Verdict};
+use refusal::Refusal;
 
 // Whether a manifest may have so many bytes.
-pub fn total_verdict(total: u64) -> Verdict
+#[tactic(auto, unfolding(crate::specs::Rules::prepare_rule))]
+pub fn total_verdict(total: u64) -> Result<(), Refusal>
     ensures { number_of result ≡ prepare_rule total }
 {
     if outside(SHORTEST, BUFFER_LEN, total as usize) {
-        return Verdict::Refused(Refusal::OutOfRange);
+        return Err(Refusal::OutOfRange);
     }
-    Verdict::Accepted
+    Ok(())
 }
 
 // Whether a payload may have n bytes at all.
-pub fn length_verdict(n: usize) -> Verdict
+pub fn length_verdict(n: usize) -> Result<(), Refusal>
     ensures { number_of result ≡ (2 when eqb n 0 else 0) }
 {
     if n == 0 {
-        return Verdict::Refused(Refusal::BadLength);
+        return Err(Refusal::BadLength);
     }
-    Verdict::Accepted
+    Ok(())
 }
 
 impl Transfer {
     // Whether n bytes may be the next.
-    pub fn payload_verdict(self, n: usize) -> Verdict
+    #[tactic(auto, unfolding(crate::specs::Rules::update_rule))]
+    pub fn payload_verdict(self, n: usize) -> Result<(), Refusal>
         ensures { number_of result ≡ update_rule self n }
     {
         if self.too_long(n) {
-            return Verdict::Refused(Refusal::OutOfRange);
+            return Err(Refusal::OutOfRange);
         }
         if self.is_idle() {
-            return Verdict::Refused(Refusal::OutOfStep);
+            return Err(Refusal::OutOfStep);
         }
-        Verdict::Accepted
+        Ok(())
     }
 }

@@ -9,9 +9,8 @@ impl Active {
     pub fn unsound(self) -> bool
         ensures { result ≡ active_unsound self }
     {
-        let id = self.id;
         if self.length == 0 {
-            return id.0 != 0;
+            return self.id.0 != 0;
         }
         outside(SHORTEST, BUFFER_LEN, self.length)
     }
@@ -25,10 +24,7 @@ impl Transfer {
         match self {
             Transfer::Idle => false,
             Transfer::Receiving { total, received } => {
-                if outside(SHORTEST, BUFFER_LEN, total) {
-                    return true;
-                }
-                total < received
+                outside(SHORTEST, BUFFER_LEN, total) || total < received
             }
         }
     }
