@@ -1,8 +1,7 @@
--- the rules, and what the functions' proofs cite
-pub mod Rules
+-- what the functions' proofs cite
 pub mod States
 pub mod Accepted
-pub mod Answers
+pub mod Parts
 -- the claim
 pub mod Steps
 pub mod Stays

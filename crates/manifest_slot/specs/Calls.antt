@@ -1,8 +1,8 @@
 -- Document 01, "Manifest slot": each call as one step of a slot with its two buffers, for every slot and every buffer. The functions' contracts cite these
 -- steps, and so do the claims about lists of calls, the commands and the C interface. Rules that ask for one part of the state only (open_number, prepare_rule,
 -- update_rule) stand in slot_state/specs/Rules.antt.
-use Rattle.std.specs.Prelude.{ℕ, Bool, not, ◌&&◌, ◌||◌, List, [], length, take, ◌==◌, nat_eq, nat_le}
-use Rattle.refusal.specs.declared.Verdict.{Verdict}
+use Rattle.std.specs.Prelude.{ℕ, Bool, not, ◌&&◌, ◌||◌, List, [], length, take, ◌==◌, nat_eq, nat_le, Result, Ok, Err}
+use Rattle.refusal.specs.declared.Refusal.{Refusal}
 use Rattle.refusal.specs.Refusals.{refusal_number, number_of}
 use Rattle.refusal.specs.Rules.{◌when◌else◌, first◌then◌}
 use Rattle.refusal.specs.Steps.{Outcome, outcome, decided}
@@ -13,8 +13,6 @@ use Rattle.slot_state.specs.State.{buffer_length, wrong_buffers, total_of, recei
 use Rattle.slot_state.specs.Rules.{open_number, prepare_rule, update_rule}
 use Rattle.manifest_slot.specs.declared.Slot.{Slot}
 use Rattle.manifest_slot.specs.declared.Answer.{Answer}
-use Rattle.manifest_slot.specs.declared.Opening.{Opening}
-use Rattle.manifest_slot.specs.declared.Opening.TheVariants.{Opened, Refused}
 use Rattle.manifest_slot.specs.declared.Role.{Role}
 use Rattle.manifest_slot.specs.Slot.{unsound, fresh, advanced, transferring, Held, held}
 
@@ -23,14 +21,10 @@ use Rattle.manifest_slot.specs.Slot.{unsound, fresh, advanced, transferring, Hel
 abbrev pub answered : Answer → List ℕ → List ℕ → Outcome Held
 answered r pending active = outcome (number_of r.verdict) (held r.slot pending active)
 
--- a refusal hands back the slot that was handed in
-abbrev pub refused_answer : Slot → Verdict → Answer
-refused_answer s v = record { verdict = v; slot = s }
-
--- an opening, refused, hands no state back: the caller's slot stands
-abbrev pub opened : Opening → Slot → List ℕ → List ℕ → Outcome Held
-opened (Opened s) before pending active = outcome 0 (held s pending active)
-opened (Refused why) before pending active = outcome (refusal_number why) (held before pending active)
+-- and where no slot is handed back beside a refusal: the caller's slot stands
+abbrev pub slot_outcome : Result Slot Refusal → Slot → List ℕ → List ℕ → Outcome Held
+slot_outcome (Ok s) before pending active = outcome 0 (held s pending active)
+slot_outcome (Err why) before pending active = outcome (refusal_number why) (held before pending active)
 
 -- ---- opening: "zeroes both buffers"
 

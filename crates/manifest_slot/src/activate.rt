@@ -2,73 +2,63 @@
 ghost use Rattle.std.specs.Prelude.{◌≡◌};
 ghost use Rattle.refusal.specs.Refusals.{number_of};
 ghost use Rattle.manifest_slot.specs.Slot.{held};
-ghost use Rattle.manifest_slot.specs.Calls.{bad_header, stale, pending_rule, signature_rule, activate_rule, activated_slot, activate_lent, activate_step, answered};
+ghost use Rattle.manifest_slot.specs.Calls.{bad_header, stale, pending_rule, signature_rule, activate_rule, activated_slot};
+ghost use Rattle.manifest_slot.specs.Calls.{activate_lent, activate_step, answered, slot_outcome};
 
 use crate::{Active, Answer, Slot, Transfer};
 use manifest_header::{header_unfit, magic_number, version_id};
-use refusal::{Refusal, Verdict, first};
+use refusal::Refusal;
 
 impl Slot {
     // A header that doesn't fit the total, or another magic number.
     fn bad_header(self, manifest: &[u8]) -> bool
         ensures { result ≡ bad_header self manifest.now }
     {
-        let transfer = self.transfer;
-        let expected = self.magic;
-        if header_unfit(manifest, transfer.total()) {
-            return true;
-        }
-        magic_number(manifest) != expected
+        header_unfit(manifest, self.transfer.total()) || magic_number(manifest) != self.magic
     }
 
     // With an active manifest, an id that isn't above its id.
     fn stale(self, manifest: &[u8]) -> bool
         ensures { result ≡ stale self manifest.now }
     {
-        let active = self.active;
-        let active_id = active.id;
-        let id = version_id(manifest);
-        if active.length == 0 {
-            return false;
-        }
-        id.0 <= active_id.0
+        self.active.length != 0 && version_id(manifest) <= self.active.id
     }
 
     // What activate asks of the manifest that arrived.
-    fn pending_verdict(self, manifest: &[u8]) -> Verdict
+    #[tactic(auto, unfolding(crate::specs::Calls::pending_rule))]
+    fn pending_verdict(self, manifest: &[u8]) -> Result<(), Refusal>
         ensures { number_of result ≡ pending_rule self manifest.now }
     {
-        let transfer = self.transfer;
-        if transfer.incomplete() {
-            return Verdict::Refused(Refusal::OutOfStep);
+        if self.transfer.incomplete() {
+            return Err(Refusal::OutOfStep);
         }
         if self.bad_header(manifest) {
-            return Verdict::Refused(Refusal::BadManifestHeader);
+            return Err(Refusal::BadManifestHeader);
         }
         if self.stale(manifest) {
-            return Verdict::Refused(Refusal::StaleVersion);
+            return Err(Refusal::StaleVersion);
         }
-        Verdict::Accepted
+        Ok(())
     }
 
-    fn activate_verdict(self, signature_good: bool, manifest: &[u8]) -> Verdict
+    #[tactic(auto, unfolding(crate::specs::Calls::activate_rule))]
+    fn activate_verdict(self, signature_good: bool, manifest: &[u8]) -> Result<(), Refusal>
         ensures { number_of result ≡ activate_rule signature_good self manifest.now }
     {
-        let arrived = self.pending_verdict(manifest);
-        let signature = signature_verdict(signature_good);
-        first(arrived, signature)
+        self.pending_verdict(manifest)?;
+        signature_verdict(signature_good)
     }
 
     // The slot whose active manifest is the pending one.
     fn activated(self, pending: &[u8]) -> Slot
         ensures { result ≡ activated_slot self pending.now }
     {
-        let transfer = self.transfer;
-        let length = transfer.total();
-        let id = version_id(pending);
         Slot {
             magic: self.magic,
-            active: Active { length, id },
+            active: Active {
+                length: self.transfer.total(),
+                id: version_id(pending),
+            },
             transfer: Transfer::Idle,
         }
     }
@@ -77,36 +67,43 @@ impl Slot {
     pub fn activate(self, signature_good: bool, pending: &[u8], active: &mut [u8]) -> Answer
         ensures { answered result pending.now active.new ≡ activate_step signature_good (held self pending.now active.old) }
     {
-        let verdict = self.lent_verdict(pending, active);
-        if let Verdict::Refused(_) = verdict {
-            return self.refused(verdict);
-        }
+        self.answer(self.activate_judged(signature_good, pending, active))
+    }
+
+    #[tactic(auto, unfolding(crate::specs::Calls::activate_step, crate::specs::Calls::activate_number, crate::specs::Calls::activate_lent))]
+    fn activate_judged(
+        self,
+        signature_good: bool,
+        pending: &[u8],
+        active: &mut [u8],
+    ) -> Result<Slot, Refusal>
+        ensures { slot_outcome result self pending.now active.new ≡ activate_step signature_good (held self pending.now active.old) }
+    {
+        self.lent_verdict(pending, active)?;
         self.activate_lent(signature_good, pending, active)
     }
 
     // Activate's own rules, for a caller that has judged buffers and state.
-    pub fn activate_lent(self, signature_good: bool, pending: &[u8], active: &mut [u8]) -> Answer
-        ensures { answered result pending.now active.new ≡ activate_lent signature_good (held self pending.now active.old) }
+    #[tactic(auto, unfolding(crate::specs::Calls::activate_lent))]
+    pub fn activate_lent(
+        self,
+        signature_good: bool,
+        pending: &[u8],
+        active: &mut [u8],
+    ) -> Result<Slot, Refusal>
+        ensures { slot_outcome result self pending.now active.new ≡ activate_lent signature_good (held self pending.now active.old) }
     {
-        let verdict = self.activate_verdict(signature_good, pending);
-        if let Verdict::Refused(_) = verdict {
-            return self.refused(verdict);
-        }
-        let transfer = self.transfer;
-        let total = transfer.total();
-        octets::replace(active, octets::front(pending, total));
-        Answer {
-            verdict,
-            slot: self.activated(pending),
-        }
+        self.activate_verdict(signature_good, pending)?;
+        octets::replace(active, octets::front(pending, self.transfer.total()));
+        Ok(self.activated(pending))
     }
 }
 
-fn signature_verdict(good: bool) -> Verdict
+fn signature_verdict(good: bool) -> Result<(), Refusal>
     ensures { number_of result ≡ signature_rule good }
 {
-    if good {
-        return Verdict::Accepted;
+    if !good {
+        return Err(Refusal::BadSignature);
     }
-    Verdict::Refused(Refusal::BadSignature)
+    Ok(())
 }

@@ -4,20 +4,19 @@
 mod activate;
 mod open;
 mod prepare;
-mod progress;
 mod read;
 mod sound;
 mod update;
 
-ghost use Rattle.std.specs.Prelude.{◌≡◌};
-ghost use Rattle.manifest_slot.specs.Calls.{refused_answer};
+ghost use Rattle.std.specs.Prelude.{◌≡◌, ℕ, List};
+ghost use Rattle.manifest_slot.specs.Calls.{answered, slot_outcome};
 
 pub use manifest_header::VersionId;
-use refusal::{Refusal, Verdict};
+use refusal::Refusal;
 pub use slot_state::{Active, Transfer};
 
 // The state of a slot.
-#[derive(Clone, Copy)]
+#[derive(Clone, Copy, Debug, PartialEq, Eq, Hash)]
 pub struct Slot {
     // The magic number that its manifests have.
     pub magic: u16,
@@ -25,21 +24,16 @@ pub struct Slot {
     pub transfer: Transfer,
 }
 
-// A call's verdict, and the next slot: the one handed in where the call refuses.
-#[derive(Clone, Copy)]
+// A call's verdict, and the next slot: the one handed in where the call refuses. The slot's calls take it by value and answer this, and no `Result` of
+// the next slot, so that a caller has a state to go on with whatever the verdict.
+#[derive(Clone, Copy, Debug, PartialEq, Eq, Hash)]
 pub struct Answer {
-    pub verdict: Verdict,
+    pub verdict: Result<(), Refusal>,
     pub slot: Slot,
 }
 
-#[derive(Clone, Copy)]
-pub enum Opening {
-    Opened(Slot),
-    Refused(Refusal),
-}
-
 // Which of a slot's manifests is asked for.
-#[derive(Clone, Copy)]
+#[derive(Clone, Copy, Debug, PartialEq, Eq, Hash)]
 pub enum Role {
     Active,
     Pending,
@@ -47,12 +41,18 @@ pub enum Role {
 
 impl Slot {
     // A refusal changes nothing.
-    pub(crate) fn refused(self, verdict: Verdict) -> Answer
-        ensures { result ≡ refused_answer self verdict }
+    fn answer(self, next: Result<Slot, Refusal>) -> Answer
+        ensures { (pending active : List ℕ) → answered result pending active ≡ slot_outcome next self pending active }
     {
-        Answer {
-            verdict,
-            slot: self,
+        match next {
+            Ok(slot) => Answer {
+                verdict: Ok(()),
+                slot,
+            },
+            Err(why) => Answer {
+                verdict: Err(why),
+                slot: self,
+            },
         }
     }
 }

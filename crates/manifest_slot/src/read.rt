@@ -5,33 +5,26 @@ ghost use Rattle.manifest_slot.specs.Slot.{held};
 ghost use Rattle.manifest_slot.specs.Calls.{read_step};
 
 use crate::{Role, Slot};
-use refusal::Verdict;
+use refusal::Refusal;
 
 impl Slot {
-    // The part of its buffer that holds the manifest of that role; empty where manifest_verdict refuses.
+    // The part of its buffer that holds the manifest of that role. No `Result`: a part of a lent buffer is empty where manifest_verdict refuses.
+    #[tactic(auto, using(crate::proofs::Parts::active_part, crate::proofs::Parts::pending_part), unfolding(crate::specs::Calls::read_step))]
     pub fn manifest<'a>(self, role: Role, pending: &'a [u8], active: &'a [u8]) -> &'a [u8]
         ensures { result.now ≡ (read_step role (held self pending.now active.now)).after }
     {
-        let verdict = self.lent_verdict(pending, active);
-        match verdict {
-            Verdict::Refused(_) => &pending[..0],
-            Verdict::Accepted => match role {
-                Role::Active => {
-                    let held = self.active;
-                    let n = held.length;
-                    &active[..n]
-                }
-                Role::Pending => {
-                    let transfer = self.transfer;
-                    let n = transfer.received();
-                    &pending[..n]
-                }
-            },
+        let Ok(()) = self.lent_verdict(pending, active) else {
+            return &[];
+        };
+        match role {
+            Role::Active => &active[..self.active.length],
+            Role::Pending => &pending[..self.transfer.received()],
         }
     }
 
     // The refusal of the same call of manifest.
-    pub fn manifest_verdict(self, role: Role, pending: &[u8], active: &[u8]) -> Verdict
+    #[tactic(auto, unfolding(crate::specs::Calls::read_step))]
+    pub fn manifest_verdict(self, role: Role, pending: &[u8], active: &[u8]) -> Result<(), Refusal>
         ensures { number_of result ≡ (read_step role (held self pending.now active.now)).number }
     {
         self.lent_verdict(pending, active)

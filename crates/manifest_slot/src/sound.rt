@@ -6,7 +6,7 @@ ghost use Rattle.manifest_slot.specs.Slot.{unsound, held};
 ghost use Rattle.manifest_slot.specs.Calls.{lent_number};
 
 use crate::Slot;
-use refusal::{Refusal, Verdict, first};
+use refusal::Refusal;
 use slot_state::buffers_verdict;
 
 impl Slot {
@@ -16,26 +16,22 @@ impl Slot {
     // A header and a signature of one byte.
     pub const SHORTEST: usize = slot_state::SHORTEST;
 
-    fn state_verdict(self) -> Verdict
+    #[tactic(auto, unfolding(crate::specs::Slot::unsound))]
+    fn state_verdict(self) -> Result<(), Refusal>
         ensures { number_of result ≡ (4 when unsound self else 0) }
     {
-        let active = self.active;
-        let transfer = self.transfer;
-        if active.unsound() {
-            return Verdict::Refused(Refusal::UnsoundState);
+        if self.active.unsound() || self.transfer.unsound() {
+            return Err(Refusal::UnsoundState);
         }
-        if transfer.unsound() {
-            return Verdict::Refused(Refusal::UnsoundState);
-        }
-        Verdict::Accepted
+        Ok(())
     }
 
     // Refusal 3 for the buffers, then 4 for the state.
-    pub fn lent_verdict(self, pending: &[u8], active: &[u8]) -> Verdict
+    #[tactic(auto, unfolding(slot_state::specs::Rules::open_number, crate::specs::Calls::lent_number))]
+    pub fn lent_verdict(self, pending: &[u8], active: &[u8]) -> Result<(), Refusal>
         ensures { number_of result ≡ lent_number (held self pending.now active.now) }
     {
-        let buffers = buffers_verdict(pending, active);
-        let state = self.state_verdict();
-        first(buffers, state)
+        buffers_verdict(pending, active)?;
+        self.state_verdict()
     }
 }
