@@ -3,13 +3,10 @@
 use Rattle.std.specs.Prelude.{ℕ, ◌-◌, ◌/◌, ◌%◌, ◌^◌, Bool, not, cond, List, [], ◌∷◌, length, get_or, drop, ltb, eqb}
 use Rattle.laws.specs.Tests.{any}
 use Rattle.octets.specs.Octets.{number_at}
-use Rattle.refusal.specs.Refusals.{refusal_number}
 use Rattle.refusal.specs.Rules.{◌when◌else◌, accepted◌then◌else◌}
 use Rattle.refusal.specs.Steps.{Reply, reply, refused_by}
 use Rattle.message_header.specs.declared.Command.{Command}
 use Rattle.message_header.specs.declared.Command.TheVariants.{GetPcdId, PreparePcd, UpdatePcd, ActivatePcd}
-use Rattle.message_header.specs.declared.Heading.{Heading}
-use Rattle.message_header.specs.declared.Heading.TheVariants.{Named, Refused}
 
 -- bit k of a byte, "counted from the top"
 abbrev pub is_set : ℕ → ℕ → Bool
@@ -101,8 +98,3 @@ flags_number m =
 -- the command that a message's header names, or its refusal
 unfoldable pub command_of : List ℕ → Reply Command
 command_of m = accepted flags_number m then lookup offered (command_byte m) else refused_by (flags_number m)
-
--- what each answer of the function says
-abbrev pub heading_reply : Heading → Reply Command
-heading_reply (Named c) = reply 0 c
-heading_reply (Refused why) = refused_by (refusal_number why)
