@@ -1,15 +1,12 @@
 -- Document 01, "Message header and PCD commands", and 000's tables of the commands' bodies: the request that each body asks for, or its refusal.
 use Rattle.std.specs.Prelude.{ℕ, not, List, length, get_or, ltb, eqb}
 use Rattle.octets.specs.Octets.{number_at}
-use Rattle.refusal.specs.Refusals.{refusal_number}
 use Rattle.refusal.specs.Rules.{◌when◌else◌}
-use Rattle.refusal.specs.Steps.{Reply, reply, refused_by}
+use Rattle.refusal.specs.Steps.{Reply, reply}
 use Rattle.message_header.specs.declared.Command.{Command}
 use Rattle.message_header.specs.declared.Command.TheVariants.{GetPcdId, PreparePcd, UpdatePcd, ActivatePcd}
 use Rattle.command_bodies.specs.declared.Request.{Request}
 use Rattle.command_bodies.specs.declared.Request.TheVariants.{GetId, Prepare, Update, Activate}
-use Rattle.command_bodies.specs.declared.Asked.{Asked}
-use Rattle.command_bodies.specs.declared.Asked.TheVariants.{Asks, Refused}
 
 -- an identifier that may be left out, which counts as 0 then: "empty or one byte 0x00 (0x01, platform id, is 11; another byte 5; longer 2)". A body that is
 -- longer is 2 whatever its bytes, so that no body is both 11 and 2
@@ -42,8 +39,3 @@ request_of PreparePcd body = reply (exact_number 4 body) (Prepare (number_at 4 b
 request_of UpdatePcd body = reply (some_number body) Update
 -- no body
 request_of ActivatePcd body = reply (exact_number 0 body) Activate
-
--- what each answer of the function says
-abbrev pub asked_reply : Asked → Reply Request
-asked_reply (Asks r) = reply 0 r
-asked_reply (Refused why) = refused_by (refusal_number why)

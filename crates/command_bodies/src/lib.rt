@@ -3,14 +3,14 @@
 
 ghost use Rattle.std.specs.Prelude.{◌≡◌};
 ghost use Rattle.refusal.specs.Refusals.{number_of};
-ghost use Rattle.refusal.specs.Steps.{reply};
-ghost use Rattle.command_bodies.specs.Bodies.{identifier_number, exact_number, some_number, request_of, asked_reply};
+ghost use Rattle.refusal.specs.Steps.{reply_of};
+ghost use Rattle.command_bodies.specs.Bodies.{identifier_number, exact_number, some_number, request_of};
 
 use message_header::Command;
-use refusal::{Refusal, Verdict};
+use refusal::Refusal;
 
 // What a body asks for.
-#[derive(Clone, Copy)]
+#[derive(Clone, Copy, Debug, PartialEq, Eq, Hash)]
 pub enum Request {
     GetId,
     Prepare(u64),
@@ -18,65 +18,58 @@ pub enum Request {
     Activate,
 }
 
-#[derive(Clone, Copy)]
-pub enum Asked {
-    Asks(Request),
-    Refused(Refusal),
-}
-
-// A request, where the body's verdict accepts.
-fn judged(verdict: Verdict, request: Request) -> Asked
-    ensures { asked_reply result ≡ reply (number_of verdict) request }
-{
-    match verdict {
-        Verdict::Refused(why) => Asked::Refused(why),
-        Verdict::Accepted => Asked::Asks(request),
-    }
-}
-
 // An identifier that may be left out: only the version id is offered.
-fn identifier_verdict(body: &[u8]) -> Verdict
+fn identifier_verdict(body: &[u8]) -> Result<(), Refusal>
     ensures { number_of result ≡ identifier_number body.now }
 {
-    if 1 < body.len() {
-        return Verdict::Refused(Refusal::BadLength);
-    }
-    match octets::byte_at(body, 0) {
-        0 => Verdict::Accepted,
-        1 => Verdict::Refused(Refusal::NotOffered),
-        _ => Verdict::Refused(Refusal::OutOfRange),
+    match body {
+        [] | [0] => Ok(()),
+        [1] => Err(Refusal::NotOffered),
+        [_] => Err(Refusal::OutOfRange),
+        _ => Err(Refusal::BadLength),
     }
 }
 
-fn exact_verdict(n: usize, body: &[u8]) -> Verdict
+fn exact_verdict(n: usize, body: &[u8]) -> Result<(), Refusal>
     ensures { number_of result ≡ exact_number n body.now }
 {
     if body.len() != n {
-        return Verdict::Refused(Refusal::BadLength);
+        return Err(Refusal::BadLength);
     }
-    Verdict::Accepted
+    Ok(())
 }
 
-fn some_verdict(body: &[u8]) -> Verdict
+fn some_verdict(body: &[u8]) -> Result<(), Refusal>
     ensures { number_of result ≡ some_number body.now }
 {
-    if body.len() == 0 {
-        return Verdict::Refused(Refusal::BadLength);
+    if body.is_empty() {
+        return Err(Refusal::BadLength);
     }
-    Verdict::Accepted
+    Ok(())
 }
 
 // What the body of a command asks for, or its refusal.
-pub fn request_of(command: Command, body: &[u8]) -> Asked
-    ensures { asked_reply result ≡ request_of command body.now }
+#[tactic(auto, unfolding(crate::specs::Bodies::request_of))]
+pub fn request_of(command: Command, body: &[u8]) -> Result<Request, Refusal>
+    ensures { reply_of result ≡ request_of command body.now }
 {
     match command {
-        Command::GetPcdId => judged(identifier_verdict(body), Request::GetId),
-        Command::PreparePcd => {
-            let total = octets::u32_at(body, 0);
-            judged(exact_verdict(4, body), Request::Prepare(total as u64))
+        Command::GetPcdId => {
+            identifier_verdict(body)?;
+            Ok(Request::GetId)
         }
-        Command::UpdatePcd => judged(some_verdict(body), Request::Update),
-        Command::ActivatePcd => judged(exact_verdict(0, body), Request::Activate),
+        Command::PreparePcd => {
+            exact_verdict(4, body)?;
+            let total: u32 = octets::number_at(body, 0);
+            Ok(Request::Prepare(total as u64))
+        }
+        Command::UpdatePcd => {
+            some_verdict(body)?;
+            Ok(Request::Update)
+        }
+        Command::ActivatePcd => {
+            exact_verdict(0, body)?;
+            Ok(Request::Activate)
+        }
     }
 }

@@ -45,7 +45,7 @@ impl Slot {
     }
 
     // Update's own rules, for a caller that has judged buffers, state and the payload's length.
-    #[tactic(auto, using(slot_state::proofs::Accepted::room_left), unfolding(crate::specs::Calls::update_lent))]
+    #[tactic(auto, using(slot_state::proofs::Accepted::payload_accepted), unfolding(crate::specs::Calls::update_lent))]
     pub fn update_lent(self, payload: &[u8], pending: &mut [u8]) -> Result<Slot, Refusal>
         ensures { (active : List ℕ) → slot_outcome result self pending.new active ≡ update_lent payload.now (held self pending.old active) }
     {

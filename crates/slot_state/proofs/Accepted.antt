@@ -23,6 +23,3 @@ unfolding update_rule
 payload_accepted t n e =
     let p = when_accepted 5 (too_long t n) (6 when is_idle t else 0) (omega arith) e in
     (p.0, (when_accepted 6 (is_idle t) 0 (omega arith) p.1).0)
-
-pub room_left : (t : Transfer) (n : ℕ) → update_rule t n ≡ 0 → too_long t n ≡ false
-room_left t n e = (payload_accepted t n e).0
