@@ -1,19 +1,17 @@
 -- A request on one slot with its two buffers: the slot call's step, and the bytes of the reply. Document 01: "A command does what the slot call does."
-use Rattle.std.specs.Prelude.{ℕ, Bool, cond, List, [], ◌∷◌, ◌++◌, length, eqb}
+use Rattle.std.specs.Prelude.{ℕ, Bool, cond, List, [], ◌∷◌, ◌++◌, length, eqb, Result, Ok, Err}
 use Rattle.octets.specs.Octets.{bytes_of, pasted}
-use Rattle.refusal.specs.Refusals.{number_of}
+use Rattle.refusal.specs.declared.Refusal.{Refusal}
+use Rattle.refusal.specs.Refusals.{refusal_number}
 use Rattle.refusal.specs.Steps.{Outcome, outcome, within}
 use Rattle.message_header.specs.Header.{opening}
 use Rattle.slot_state.specs.declared.Active.{Active}
 use Rattle.manifest_slot.specs.declared.Slot.{Slot}
-use Rattle.manifest_slot.specs.declared.Answer as slot-answer
-use Rattle.refusal.specs.declared.Refusal.{Refusal}
-use Rattle.refusal.specs.declared.Verdict.TheVariants.{Refused}
 use Rattle.manifest_slot.specs.Slot.{Held, held}
 use Rattle.manifest_slot.specs.Calls.{prepare_lent, update_lent, activate_lent}
 use Rattle.command_bodies.specs.declared.Request.{Request}
 use Rattle.command_bodies.specs.declared.Request.TheVariants.{GetId, Prepare, Update, Activate}
-use Rattle.requests.specs.declared.Answer.{Answer}
+use Rattle.requests.specs.declared.Performed.{Performed}
 
 -- a slot with its buffers, and the bytes that answer
 pub record Replied : Type 0 where
@@ -58,14 +56,7 @@ responded response r = record { held = r.held; response = pasted response 0 r.re
 abbrev pub served_step : Bool → ℕ → List ℕ → Request → Served → Outcome Served
 served_step good byte body request b = within (responded b.response) (request_step good byte body request b.held)
 
--- what the functions' answers say, with the buffers at exit
-abbrev pub answered : Answer → List ℕ → List ℕ → List ℕ → Outcome Served
-answered r pending active response = outcome (number_of r.verdict) (served r.slot pending active response r.written)
-
--- a slot call's answer, to a command that writes no response
-abbrev pub silent : slot-answer.Answer → Answer
-silent a = record { verdict = a.verdict; slot = a.slot; written = 0 }
-
--- a refused command's
-abbrev pub refused_answer : Slot → Refusal → Answer
-refused_answer s why = record { verdict = Refused why; slot = s; written = 0 }
+-- what a request's answer says, with the buffers at exit; refused, it hands no slot back, and the caller's stands
+abbrev pub performed : Result Performed Refusal → Slot → List ℕ → List ℕ → List ℕ → Outcome Served
+performed (Ok done) before pending active response = outcome 0 (served done.slot pending active response done.written)
+performed (Err why) before pending active response = outcome (refusal_number why) (served before pending active response 0)
