@@ -1,12 +1,15 @@
 -- Document 01, "Message header and PCD commands": the command call. "3, then 4, then 1, 11, 2, then the rest in rising order".
-use Rattle.std.specs.Prelude.{ℕ, Bool, ◌||◌, List, length, ltb}
+use Rattle.std.specs.Prelude.{ℕ, Bool, ◌||◌, List, length, ltb, Result, Ok, Err}
+use Rattle.refusal.specs.declared.Refusal.{Refusal}
+use Rattle.refusal.specs.Refusals.{number_of}
 use Rattle.refusal.specs.Rules.{◌when◌else◌, accepted◌then◌else◌}
 use Rattle.refusal.specs.Steps.{Outcome, outcome, given}
 use Rattle.slot_state.specs.State.{wrong_buffers}
 use Rattle.manifest_slot.specs.Slot.{unsound}
 use Rattle.message_header.specs.Header.{command_of, command_byte, body_of}
 use Rattle.command_bodies.specs.Bodies.{request_of}
-use Rattle.requests.specs.Requests.{Served, served_step}
+use Rattle.requests.specs.Requests.{Served, served, served_step}
+use Rattle.commands.specs.declared.Answer.{Answer}
 
 -- "The response buffer must have at least ten bytes for every command, else 3"
 abbrev pub response_length : ℕ
@@ -27,3 +30,11 @@ command_step good message b =
     given (request_of command (body_of message)) b (λ request.
     served_step good (command_byte message) (body_of message) request b))
     else outcome (ready_number b) b
+
+-- what the function's answer says, with the buffers at exit: "the answer says length 0" beside a refusal
+abbrev pub written_of : Result ℕ Refusal → ℕ
+written_of (Ok n) = n
+written_of (Err why) = 0
+
+abbrev pub answered : Answer → List ℕ → List ℕ → List ℕ → Outcome Served
+answered r pending active response = outcome (number_of r.verdict) (served r.slot pending active response (written_of r.verdict))

@@ -15,7 +15,7 @@ pub use manifest_header::VersionId;
 use refusal::Refusal;
 pub use slot_state::{Active, Transfer};
 
-// The state of a slot.
+// The state of a slot. Its buffers are no part of it: each call is lent both, and which of them it may write differs.
 #[derive(Clone, Copy, Debug, PartialEq, Eq, Hash)]
 pub struct Slot {
     // The magic number that its manifests have.
