@@ -1,21 +1,21 @@
 -- A slot's step in C, from that of the Rattle call: what is stored where it accepts, and that nothing is where it refuses.
 use Prim.Native.Nat.{ℕ, zero, suc, ◌<◌, ◌≤◌}
-use mathlib.Core.Path.{◌≡◌, sym, ap, subst, ◌∙◌}
+use mathlib.Core.Path.{◌≡◌, ap, subst, ◌∙◌}
 use mathlib.Core.List.{List}
 use native.Mathlib.Omega.{arith}
 use Rattle.refusal.specs.declared.Refusal.{Refusal}
-use Rattle.refusal.specs.declared.Verdict.{Verdict}
-use Rattle.refusal.specs.Refusals.{refusal_number, number_of}
+use Rattle.std.specs.Prelude.{Result, Ok, Err, MatchResult, IsOkAnd}
+use Rattle.refusal.specs.Refusals.{number_of}
 use Rattle.refusal.specs.Steps.{Outcome, outcome, decided, Keeps}
 use Rattle.refusal.proofs.Laws.{refusal_positive}
 use Rattle.refusal.proofs.Steps.{decided_yes, decided_no, keeps_decided}
 use Rattle.manifest_slot.specs.declared.Slot.{Slot}
-use Rattle.manifest_slot.specs.declared.Opening.{Opening}
-use Rattle.manifest_slot.specs.Calls.{opened, open_step}
+use Rattle.manifest_slot.specs.Calls.{slot_outcome, open_step}
 use Rattle.manifest_slot.specs.Slot.{Held, held}
+use Rattle.c_encoding.specs.Answers.{told}
 use Rattle.requests.specs.Requests.{Served, served}
-use Rattle.c_encoding.specs.Slots.{slot_of, numbers_of, CSlot, c_slot, held_in, kept_in, slot_step}
 use Rattle.c_encoding.specs.Messages.{CServed, c_served, served_in, served_step}
+use Rattle.c_encoding.specs.Slots.{slot_of, numbers_of, CSlot, c_slot, held_in, kept_in, slot_step}
 
 -- ---- a slot call
 
@@ -39,30 +39,27 @@ module _ (c : CSlot) {r : ℕ} {numbers pending active : List ℕ} {s : Slot} wh
 -- ---- an opening, which is handed no slot
 
 -- what it answers, whatever slot the caller has
-abbrev Opens : CSlot → ℕ → Opening → List ℕ → List ℕ → Type 0
-Opens c magic o pending active = (before : Slot) → opened o before pending active ≡ open_step magic (held before c.pending c.active)
+abbrev Opens : CSlot → ℕ → Result Slot Refusal → List ℕ → List ℕ → Type 0
+Opens c magic o pending active = (before : Slot) → slot_outcome o before pending active ≡ open_step magic (held before c.pending c.active)
 
 open_keeps : (c : CSlot) (magic : ℕ) → Keeps (held_in c) (open_step magic (held_in c))
 unfolding open_step
 open_keeps c magic = keeps_decided _ (held_in c) _
 
-pub opened_refused : (c : CSlot) (magic : ℕ) {o : Opening} {pending active : List ℕ} {why : Refusal} → o ≡ Opening.Refused why → Opens c magic o pending active
-    → outcome (refusal_number why) (c_slot c.numbers pending active) ≡ slot_step (open_step magic) c
-opened_refused c magic {pending = pending} {active = active} {why = why} g is =
-    slot_stored c (open_step magic) (open_keeps c magic)
-    (ap (λ (x : Opening). opened x (slot_of c.numbers) pending active) (sym g) ∙ is (slot_of c.numbers))
-    (decided_no c.numbers (numbers_of (slot_of c.numbers)) (refusal_positive why))
-
-pub opened_accepted : (c : CSlot) (magic : ℕ) {o : Opening} {pending active : List ℕ} {s : Slot} {numbers : List ℕ} → o ≡ Opening.Opened s
-    → Opens c magic o pending active → numbers ≡ numbers_of s → outcome 0 (c_slot numbers pending active) ≡ slot_step (open_step magic) c
-opened_accepted c magic {pending = pending} {active = active} g is e =
-    slot_stored c (open_step magic) (open_keeps c magic)
-    (ap (λ (x : Opening). opened x (slot_of c.numbers) pending active) (sym g) ∙ is (slot_of c.numbers))
-    (ap (λ (l : List ℕ). outcome 0 l) e)
+-- its slot's numbers are told
+pub opened_told : (c : CSlot) (magic : ℕ) (o : Result Slot Refusal) (m : Result (List ℕ) Refusal) {r : ℕ} {numbers pending active : List ℕ} → Opens c magic o pending active
+    → MatchResult o (λ s. IsOkAnd m (λ n. n ≡ numbers_of s)) (λ why. m ≡ Err why) → outcome r numbers ≡ told m c.numbers
+    → outcome r (c_slot numbers pending active) ≡ slot_step (open_step magic) c
+opened_told c magic (Ok s) (Ok n) is e stored =
+    slot_stored c (open_step magic) (open_keeps c magic) (is (slot_of c.numbers)) (stored ∙ ap (λ (l : List ℕ). outcome 0 l) e)
+opened_told c magic (Ok s) (Err why) is e stored = absurd e
+opened_told c magic (Err why) m is e stored =
+    slot_stored c (open_step magic) (open_keeps c magic) (is (slot_of c.numbers))
+    (stored ∙ ap (λ (x : Result (List ℕ) Refusal). told x c.numbers) e ∙ decided_no c.numbers (numbers_of (slot_of c.numbers)) (refusal_positive why))
 
 -- ---- the command call
 
-module _ (c : CServed) (step : Served → Outcome Served) (v : Verdict) {s : Slot} {pending active response : List ℕ} {written : ℕ}
+module _ {A : Type 0} (c : CServed) (step : Served → Outcome Served) (v : Result A Refusal) {s : Slot} {pending active response : List ℕ} {written : ℕ}
     (is : outcome (number_of v) (served s pending active response written) ≡ step (served_in c)) where
   whole : decided (number_of v) c (c_served (c_slot (numbers_of s) pending active) response written) ≡ served_step step c
   whole = ap (λ (o : Outcome Served). decided o.number c (c_served (kept_in o.after.held) o.after.response o.after.written)) is

@@ -3,7 +3,7 @@ ghost use Rattle.std.specs.Prelude.{◌≡◌};
 ghost use Rattle.c_encoding.specs.Comparisons.{pmr_comparison_bytes, comparison_bytes};
 
 use attestation_log::Pmr;
-use log_comparison::{Agreement, PmrComparison};
+use log_comparison::PmrComparison;
 
 // The bytes of one PMR, and of all five.
 const PMR_LEN: usize = 5;
@@ -15,23 +15,19 @@ fn pmr_bytes(compared: PmrComparison) -> [u8; PMR_LEN]
 {
     let left = compared.left_records;
     let right = compared.right_records;
-    let same = compared.same_register as u8;
-    let digests = compared.digests;
-    match digests {
-        Agreement::Agree => [left, right, same, 1, 0],
-        Agreement::DifferAt(place) => [left, right, same, 0, place.0],
+    let same = u8::from(compared.same_register);
+    match compared.first_difference {
+        None => [left, right, same, 1, 0],
+        Some(place) => [left, right, same, 0, place.0],
     }
 }
 
-pub fn comparison_bytes(pmrs: [PmrComparison; Pmr::COUNT]) -> [u8; COMPARISON_LEN]
-    ensures { result ≡ comparison_bytes pmrs }
+pub fn comparison_bytes(pmrs: &[PmrComparison; Pmr::COUNT]) -> [u8; COMPARISON_LEN]
+    ensures { result ≡ comparison_bytes pmrs.now }
 {
     let mut bytes = [0u8; COMPARISON_LEN];
-    let mut p: usize = 0;
-    while p < Pmr::COUNT {
-        let of_pmr = pmr_bytes(pmrs[p]);
-        octets::put(&mut bytes, PMR_LEN * p, &of_pmr);
-        p += 1;
+    for (p, compared) in pmrs.iter().enumerate() {
+        octets::put(&mut bytes, PMR_LEN * p, &pmr_bytes(*compared));
     }
     bytes
 }

@@ -1,28 +1,19 @@
 // The number by which C names the role of a manifest.
-ghost use Rattle.std.specs.Prelude.{◌≡◌, ltb};
-ghost use Rattle.refusal.specs.Refusals.{number_of};
-ghost use Rattle.refusal.specs.Rules.{◌when◌else◌};
-ghost use Rattle.c_encoding.specs.Roles.{role_of};
+ghost use Rattle.std.specs.Prelude.{◌≡◌};
+ghost use Rattle.refusal.specs.Steps.{reply_of};
+ghost use Rattle.c_encoding.specs.Roles.{role_reply};
 
 use manifest_slot::Role;
-use refusal::{Refusal, Verdict};
+use refusal::Refusal;
 
-// Whether a role has this number.
-pub fn role_verdict(role: u8) -> Verdict
-    ensures { number_of result ≡ (5 when ltb 1 role else 0) }
+// The role with this number. `TryFrom` would have to stand with the role, which knows no C.
+#[tactic(auto, unfolding(crate::specs::Roles::role_reply))]
+pub fn role_of(role: u8) -> Result<Role, Refusal>
+    ensures { reply_of result ≡ role_reply role }
 {
-    if 1 < role {
-        return Verdict::Refused(Refusal::OutOfRange);
+    match role {
+        0 => Ok(Role::Active),
+        1 => Ok(Role::Pending),
+        _ => Err(Refusal::OutOfRange),
     }
-    Verdict::Accepted
-}
-
-// 0 is active. Every other number is read as pending, so that each has a role: those above 1 are `role_verdict`'s to refuse.
-pub fn role_of(role: u8) -> Role
-    ensures { result ≡ role_of role }
-{
-    if role == 0 {
-        return Role::Active;
-    }
-    Role::Pending
 }

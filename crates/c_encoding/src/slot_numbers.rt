@@ -4,30 +4,33 @@ ghost use Rattle.c_encoding.specs.Slots.{no_slot, transfer_of, slot_of, numbers_
 
 use manifest_slot::{Active, Slot, Transfer, VersionId};
 
-fn no_slot(n: [u64; 6]) -> bool
-    ensures { result ≡ no_slot n }
+fn no_slot(n: &[u64; 6]) -> bool
+    ensures { result ≡ no_slot n.now }
 {
-    (0xffff < n[0])
-        | (0xffff_ffff < n[2])
-        | (1 < n[3])
-        | ((n[3] == 0) & !((n[4] == 0) & (n[5] == 0)))
+    let [magic, _, id, receiving, total, received] = *n;
+    0xffff < magic
+        || 0xffff_ffff < id
+        || 1 < receiving
+        || (receiving == 0 && (total != 0 || received != 0))
 }
 
-fn transfer_of(n: [u64; 6]) -> Transfer
-    ensures { result ≡ transfer_of n }
+fn transfer_of(n: &[u64; 6]) -> Transfer
+    ensures { result ≡ transfer_of n.now }
 {
-    if n[3] == 0 {
+    let [_, _, _, receiving, total, received] = *n;
+    if receiving == 0 {
         return Transfer::Idle;
     }
     Transfer::Receiving {
-        total: n[4] as usize,
-        received: n[5] as usize,
+        total: total as usize,
+        received: received as usize,
     }
 }
 
 // The slot that the integers stand for; one outside the rules, which every call refuses, where they stand for none.
-pub fn slot_of(n: [u64; 6]) -> Slot
-    ensures { result ≡ slot_of n }
+#[tactic(auto, unfolding(crate::specs::Slots::slot_of))]
+pub fn slot_of(n: &[u64; 6]) -> Slot
+    ensures { result ≡ slot_of n.now }
 {
     if no_slot(n) {
         return Slot {
@@ -39,26 +42,25 @@ pub fn slot_of(n: [u64; 6]) -> Slot
             transfer: Transfer::Idle,
         };
     }
+    let [magic, length, id, _, _, _] = *n;
     Slot {
-        magic: n[0] as u16,
+        magic: magic as u16,
         active: Active {
-            length: n[1] as usize,
-            id: VersionId(n[2] as u32),
+            length: length as usize,
+            id: VersionId(id as u32),
         },
         transfer: transfer_of(n),
     }
 }
 
+#[tactic(auto, unfolding(crate::specs::Slots::numbers_of))]
 pub fn numbers_of(slot: Slot) -> [u64; 6]
     ensures { result ≡ numbers_of slot }
 {
-    let magic = slot.magic as u64;
-    let active = slot.active;
-    let length = active.length as u64;
-    let version = active.id;
-    let id = version.0 as u64;
-    let transfer = slot.transfer;
-    match transfer {
+    let magic = u64::from(slot.magic);
+    let length = slot.active.length as u64;
+    let id = u64::from(slot.active.id.0);
+    match slot.transfer {
         Transfer::Idle => [magic, length, id, 0, 0, 0],
         Transfer::Receiving { total, received } => {
             [magic, length, id, 1, total as u64, received as u64]

@@ -1,4 +1,3 @@
-use Prim.Native.Nat.{◌-◌}
 use mathlib.Core.List.{[]}
 use Rattle.octets.proofs.Runs.{Put}
 use Rattle.c_encoding.specs.Comparisons.{pmr_comparison_length, pmr_comparison_bytes}
@@ -6,6 +5,3 @@ use Rattle.c_encoding.proofs.comparison_bytes.comparison_bytes.Given as goal
 
 abbrev pub invariant-loop-p : goal.invariant-loop-p
 invariant-loop-p l = Put pmr_comparison_bytes pmr_comparison_length [] l.pmrs l.bytes l.p
-
-abbrev pub decreases-loop-p : goal.decreases-loop-p
-decreases-loop-p l = 5 - l.p
