@@ -5,6 +5,7 @@ ghost use Rattle.fips180.specs.Hash.{«sums», «compress»};
 use crate::rounds::{first_sixteen_rounds, next_sixteen_rounds};
 use sha_words::Word;
 
+// By an index: with `array::from_fn`, and with `iter_mut` and `zip`, the proof did not close.
 fn sums<W: Word<B>, const B: usize>(s: [W; 8], t: [W; 8]) -> [W; 8]
     ensures { map W.number result ≡ «sums» W.family 8 (map W.number s) (map W.number t) }
 {

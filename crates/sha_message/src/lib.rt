@@ -25,7 +25,8 @@ fn hash_bytes<W: Word<B>, const B: usize>(s: &[W; 8]) -> [u8; 64]
 // The first N bytes of the hash value over the message m, from the hash value h. m may be the end of a message of n bytes, whose blocks before it are in h:
 // they count in the length, and nowhere else.
 pub fn digest<W: Word<B>, const B: usize, const N: usize>(h: [W; 8], n: usize, m: &[u8]) -> [u8; N]
-    ensures { (k : ℕ) → n ≡ k * (16 * B) + length m.now → N ≤ 8 * B → result ≡ take N (word_bytes_of W.family 8 (hash_after W.family (map W.number h) k m.now)) }
+    ensures { (k : ℕ) → n ≡ k * (16 * B) + length m.now → N ≤ 8 * B
+        → result ≡ take N (word_bytes_of W.family 8 (hash_after W.family (map W.number h) k m.now)) }
 {
     let mut s = h;
     hash_value(&mut s, n, m);

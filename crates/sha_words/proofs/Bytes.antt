@@ -25,7 +25,10 @@ read_eight b h l e =
 
 pub written_four : {x : ℕ} {b : List ℕ} → x < 2 ^ 32 → b ≡ to_be_bytes w32 x → b ≡ big_endian 4 (x % 2 ^ 32)
 unfolding big_endian
-written_four {x = x} l e = e ∙ ap (λ (n : ℕ). x / 2 ^ 24 % 256 ∷ x / 2 ^ 16 % 256 ∷ x / 2 ^ 8 % 256 ∷ n ∷ []) (byte_last x) ∙ ap (big_endian 4) (sym (mod-eq_of_lt l))
+written_four {x = x} l e =
+    e
+    ∙ ap (λ (n : ℕ). x / 2 ^ 24 % 256 ∷ x / 2 ^ 16 % 256 ∷ x / 2 ^ 8 % 256 ∷ n ∷ []) (byte_last x)
+    ∙ ap (big_endian 4) (sym (mod-eq_of_lt l))
 
 pub written_eight : {x : ℕ} {b : List ℕ} → x < 2 ^ 64 → b ≡ to_be_bytes w64 x → b ≡ big_endian 8 (x % 2 ^ 64)
 unfolding big_endian

@@ -3,3 +3,4 @@ pub mod Width
 pub mod Bytes
 pub mod Sizes
 pub mod Numbers
+pub mod Integers

@@ -26,6 +26,7 @@ pub trait Word<const BYTES: usize>: Copy + Default + 'static {
     fn shift_right(self, n: u32) -> Self
         ensures { n < word_bits family → number result ≡ shr n (number self) };
 
+    // By shifts, as this project makes every rotation of its hashes.
     fn rotate_right(self, n: u32) -> Self
         ensures { 0 < n → n < word_bits family → number result ≡ rotr (word_bits family) n (number self) };
 

@@ -17,12 +17,13 @@ const CONSTANTS: [u32; 64] = [
     0x748f82ee, 0x78a5636f, 0x84c87814, 0x8cc70208, 0x90befffa, 0xa4506ceb, 0xbef9a3f7, 0xc67178f2,
 ];
 
-#[tactic(auto, using(crate::proofs::Width::shifted, crate::proofs::Width::rotated, crate::proofs::Bytes::read_four, crate::proofs::Bytes::written_four,), unfolding(fips180::specs::Sha256::family32, fips180::specs::Family::word_bits, fips180::specs::Hash::plus, fips180::specs::Words::add,))]
+#[tactic(auto, using(crate::proofs::Integers::integers), unfolding(fips180::specs::Sha256::family32, fips180::specs::Family::word_bits))]
 impl Word<4> for u32 {
     ghost family = { family32 };
 
     ghost number = { λ x. x % 2 ^ 32 };
 
+    #[tactic(auto, unfolding(fips180::specs::Sha256::family32, fips180::specs::Hash::plus, fips180::specs::Family::word_bits, fips180::specs::Words::add))]
     fn add(self, other: u32) -> u32 {
         self.wrapping_add(other)
     }

@@ -89,12 +89,13 @@ const CONSTANTS: [u64; 80] = [
     0x6c44198c4a475817,
 ];
 
-#[tactic(auto, using(crate::proofs::Width::shifted, crate::proofs::Width::rotated, crate::proofs::Bytes::read_eight, crate::proofs::Bytes::written_eight,), unfolding(fips180::specs::Sha512::family64, fips180::specs::Family::word_bits, fips180::specs::Hash::plus, fips180::specs::Words::add,))]
+#[tactic(auto, using(crate::proofs::Integers::integers), unfolding(fips180::specs::Sha512::family64, fips180::specs::Family::word_bits))]
 impl Word<8> for u64 {
     ghost family = { family64 };
 
     ghost number = { λ x. x % 2 ^ 64 };
 
+    #[tactic(auto, unfolding(fips180::specs::Sha512::family64, fips180::specs::Hash::plus, fips180::specs::Family::word_bits, fips180::specs::Words::add))]
     fn add(self, other: u64) -> u64 {
         self.wrapping_add(other)
     }
