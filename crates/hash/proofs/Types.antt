@@ -9,7 +9,14 @@ use borrow.Author.Tests.{ne_eqb}
 use Rattle.fips180.specs.Sha256.{sha256}
 use Rattle.fips180.specs.Sha512.{sha384, sha512}
 use Rattle.fips180.proofs.Digest.{sha256_length, sha384_length, sha512_length}
-use Rattle.hash.specs.Types.{by_type, hash_length, hash_of}
+use Rattle.std.specs.Prelude.{Ok}
+use Rattle.refusal.specs.Steps.{reply_by}
+use Rattle.hash.specs.declared.HashType.{HashType}
+use Rattle.hash.specs.Types.{type_number, type_reply, by_type, hash_length, hash_of}
+
+-- a number that stands for a type is that type's
+pub type_tried : (k : HashType) (n : ℕ) → reply_by type_number (Ok k) ≡ type_reply n → (type_number k ≡ n) × (n ≤ 2)
+type_tried k n e = grind arith
 
 pub type_none : {A : Type 0} (t : ℕ) (a b c none : A) → 2 < t → by_type t a b c none ≡ none
 type_none t a b c none h =

@@ -1,26 +1,28 @@
 -- A signed image, by any judgement of regions: what its writer wrote, its reader reads back; what its reader accepts, its writer writes again.
-use Prim.Native.Nat.{ℕ, ◌≤◌, ◌<◌, ◌+◌, ◌*◌, ◌/◌, ◌^◌}
+use Prim.Native.Nat.{ℕ, ◌≤◌, ◌+◌, ◌-◌, ◌*◌, ◌/◌, ◌%◌, ◌^◌}
 use mathlib.Core.Path.{◌≡◌, refl, sym, ap, ◌∙◌}
-use mathlib.Core.Bool.{Bool, false, not, ◌||◌, or_assoc}
+use mathlib.Core.Bool.{Bool, true, false, not, ◌||◌}
 use mathlib.Core.List.{List, [], ◌∷◌, ◌++◌}
 use native.Mathlib.Omega.{arith}
-use borrow.Author.Tests.{ne_eqb, eqb-false, lt-ltb, le-ltb, ltb-false}
+use borrow.Author.Tests.{ne_eqb, eqb-false, le-ltb, ltb-false}
 use lib.Dec.{eqb, ltb, lit<}
-use lib.ListN.{length, get_or, drop, length-append, length-drop, take-append-drop}
+use lib.ListN.{length, get_or, take, drop, length-append, length-drop, take-append-drop}
 use lib.Seq.{length-take-le, take_at, drop_at, drop-drop}
-use Rattle.laws.specs.Tests.{bit_of}
-use Rattle.laws.proofs.Tests.{any_no, no_any, or_no, or_left, or_yes, equal_no, no_equal}
+use Rattle.laws.specs.Tests.{any, bit_of}
+use Rattle.laws.proofs.Tests.{any_no, no_any, or_no, or_left, equal_no, no_equal}
 use Rattle.octets.specs.Octets.{Bytes}
 use Rattle.refusal.specs.Steps.{outcome, reply}
 use Rattle.refusal.proofs.Laws.{accepted_yes}
 use Rattle.hash.specs.Types.{hash_length}
-use Rattle.element_parts.specs.Parts.{read_number, write_number, item_count, bad_items}
+use Rattle.element_parts.specs.Parts.{read_number, item_count}
 use Rattle.regions.specs.Region.{region_length, Judgement}
-use Rattle.signed_image.specs.SignedImage.{image_head_length, image_length, hash_type_of, region_count_of, must_validate_of, hash_of, regions_of, image_faults, image_number, image_fields, image_hash, image_regions, image_field_faults, image_fields_malformed, bad_flag, image_bytes, image_write_step}
-use Rattle.element_parts.proofs.Verdicts.{read_yes, read_accepted, write_malformed, write_accepted, write_after, write_done, length_if_sound}
+use Rattle.signed_image.specs.SignedImage.{ImageFields, image_head_length, image_length, hash_type_of, region_count_of, must_validate_of, hash_of, regions_of, image_faults, image_number, image_fields, image_hash, image_regions, image_field_faults, image_fields_malformed, bad_flag, image_bytes, image_write_step}
+use Rattle.element_parts.proofs.Verdicts.{read_yes, read_accepted, write_accepted, write_after, write_done}
 use Rattle.element_parts.proofs.Items.{GoodItems, good_items, items_good, items_of, counted}
+use Rattle.laws.proofs.Lists.{take_to_end}
+use Rattle.signed_image.specs.Parts.{image_parts}
 use Rattle.element_parts.proofs.Heads.{four_and_rest}
-use Rattle.signed_image.proofs.Flags.{one_bit, flag_back, flag_good, flag_small, flag_again}
+use Rattle.signed_image.proofs.Flags.{flag_back, flag_good, flag_small, flag_again}
 
 -- ---- fields that the writer accepts
 
@@ -48,37 +50,7 @@ module _ (j : Judgement) (t : ℕ) (hash regions : List ℕ) where
       no_any (image_field_faults j t hash regions)
       (le-ltb 2 t k.known, (equal_no k.hash_length_law, (items_good region_length regions k.items, (k.sound, tt))))
 
-  -- the tests of the code that need no region, of which one is `shape`, and then those of the regions
-  pub fields_judged : {width : ℕ} {bad shape regions-bad : Bool} → width ≡ hash_length t → bad ≡ bad_items region_length regions
-      → (ltb 2 t || not (eqb (length hash) width) || bad) ≡ shape → regions-bad ≡ j.bad_regions regions (item_count region_length regions)
-      → (shape || regions-bad) ≡ image_fields_malformed j t hash regions
-  unfolding image_fields_malformed
-  fields_judged w b e r =
-      (λ i. (sym e ∙ (λ k. ltb 2 t || not (eqb (length hash) (w k)) || b k)) i || r i)
-      ∙ simp or_assoc
-
-  -- where none of the first holds, a byte can say how many regions there are
-  pub fields_few : (width : ℕ) {bad : Bool} → bad ≡ bad_items region_length regions → (ltb 2 t || not (eqb (length hash) width) || bad) ≡ false
-      → item_count region_length regions ≤ 255
-  fields_few width {bad} b e = (good_items region_length regions (sym b ∙ (or_no (ltb 2 t || not (eqb (length hash) width)) bad e).1)).few
-
-  -- a flag given as a number: one that a bit doesn't hold, and one that it does
-  pub flag_undefined : (m : ℕ) (buffer : List ℕ) → 1 < m → outcome 12 buffer ≡ image_write_step j t m hash regions buffer
-  flag_undefined m buffer h = write_malformed (image_bytes t m hash regions) buffer (or_yes (image_fields_malformed j t hash regions) (lt-ltb 1 m h))
-
-  pub flag_given : (m : ℕ) (buffer : List ℕ) → m ≤ 1 → image_write_step j t (bit_of (eqb m 1)) hash regions buffer ≡ image_write_step j t m hash regions buffer
-  flag_given m buffer h = ap (λ (n : ℕ). image_write_step j t n hash regions buffer) (one_bit m (omega arith))
-
   module _ (m : Bool) where
-    -- the code's number for a buffer of n bytes. The element's length is by the hash's type or by the hash: the two are the same in sound fields
-    pub image_number_law : {u : Bool} {width : ℕ} (n : ℕ) → u ≡ image_fields_malformed j t hash regions → width ≡ hash_length t
-        → write_number u (image_head_length + width + length regions) n
-        ≡ write_number (bad_flag (bit_of m) || image_fields_malformed j t hash regions) (length (image_bytes t (bit_of m) hash regions)) n
-    image_number_law n e w =
-        (λ i. write_number ((e ∙ sym (or_left (image_fields_malformed j t hash regions) (flag_good m))) i) (image_head_length + w i + length regions) n)
-        ∙ length_if_sound (bad_flag (bit_of m) || image_fields_malformed j t hash regions) _ _ n
-        (λ f. omega (arith, length-append hash regions, (image_sound (or_no (bad_flag (bit_of m)) (image_fields_malformed j t hash regions) f).1).hash_length_law))
-
     -- what an accepted writer was given
     pub record ImageWrites (buffer : List ℕ) : Type 0 where
       pub fields : ImageSound j t hash regions
@@ -130,30 +102,79 @@ module _ (j : Judgement) (b : List ℕ) where
         (equal_no k.high, (le-ltb 2 (hash_type_of b) k.known, (ne_eqb (region_count_of b) 0 k.some, (equal_no k.flag, (equal_no k.zero3, (k.sound, tt)))))),
       ))
 
-  -- the tests of the code: the hash type t, its width, the count n, the bytes b0, b2 and b3, and the judgement u of the regions l
-  pub image_judged : {t width n b0 b2 b3 : ℕ} {l : List ℕ} {u : Bool} → t ≡ hash_type_of b → width ≡ hash_length t → n ≡ region_count_of b
-      → b0 ≡ get_or b 0 0 → b2 ≡ get_or b 2 0 → b3 ≡ get_or b 3 0 → l ≡ drop (image_head_length + width) b → u ≡ j.bad_regions l n
-      → read_number (
-      not (eqb (length b) (image_head_length + width + region_length * n)) || not (eqb (b0 / 2 ^ 3) 0) || ltb 2 t || eqb n 0 || not (eqb (b2 / 2) 0)
-      || not (eqb b3 0)
-      || u
-      )
-      ≡ image_number j b
+both_no : (a b : Bool) → (a ≡ false → b ≡ false) → (b ≡ false → a ≡ false) → a ≡ b
+both_no true true f g = refl
+both_no true false f g = g refl
+both_no false b f g = sym (f refl)
+
+-- the bytes behind the first four, as code lends them
+abbrev rest_of : List ℕ → List ℕ
+rest_of b = take (length b - 4) (drop 4 b)
+
+-- an element that the code took apart: the type t by its first byte, and of what stands behind the first four the hash and the regions
+pub record Apart (b : List ℕ) (t width : ℕ) (hash regions : List ℕ) : Type 0 where
+  pub type : (t ≡ get_or b 0 0) × (get_or b 0 0 ≤ 2)
+  pub zero3 : get_or b 3 0 ≡ 0
+  pub long : 4 ≤ length b
+  pub wide : width ≡ hash_length t
+  pub hash_is : hash ≡ take width (rest_of b)
+  pub regions_is : regions ≡ drop width (rest_of b)
+
+module _ (j : Judgement) (b : List ℕ) {t width : ℕ} {hash regions : List ℕ} (a : Apart b t width hash regions) where
+  rest_is : rest_of b ≡ drop 4 b
+  rest_is = take_to_end 4 b
+
+  type_is : t ≡ hash_type_of b
+  type_is = let e = a.type in omega arith
+
+  width_is : width ≡ hash_length (hash_type_of b)
+  width_is = a.wide ∙ ap hash_length type_is
+
+  length_is : length b ≡ 4 + length (rest_of b)
+  length_is = let l = a.long in omega (arith, ap length rest_is, length-drop 4 b)
+
+  pub hash_apart : hash ≡ hash_of b
+  hash_apart = a.hash_is ∙ (λ i. take (width_is i) (rest_is i))
+
+  pub regions_apart : regions ≡ regions_of b
+  regions_apart = a.regions_is ∙ (λ i. drop (width_is i) (rest_is i)) ∙ drop-drop (hash_length (hash_type_of b)) 4 b
+
+  -- what is left to test, where u judges the regions
+  pub tests_apart : {u : Bool} → u ≡ j.bad_regions regions (region_count_of b)
+      → read_number (ltb 1 (get_or b 2 0) || eqb (region_count_of b) 0 || not (eqb (length (rest_of b)) (width + region_length * region_count_of b)) || u) ≡ image_number j b
   unfolding image_number
-  image_judged et ew en e0 e2 e3 el eu =
-      let w = ew ∙ ap hash_length et in
-      let regions = el ∙ (λ i. drop (image_head_length + w i) b) in
-      let last = eu ∙ (λ i. j.bad_regions (regions i) (en i)) in
-      (λ i. read_number (
-      not (eqb (length b) (image_head_length + w i + region_length * en i))
-      || not (eqb (e0 i / 2 ^ 3) 0)
-      || ltb 2 (et i)
-      || eqb (en i) 0
-      || not (eqb (e2 i / 2) 0)
-      || not (eqb (e3 i) 0)
-      || last i
+  tests_apart {u} e =
+      ap read_number
+      (both_no _ (any (image_faults j b))
+      (λ f.
+      let p = or_no _ u f in
+      let q = or_no _ _ p.0 in
+      let r = or_no (ltb 1 (get_or b 2 0)) _ q.0 in
+      let long : length (rest_of b) ≡ width + region_length * region_count_of b = no_equal _ _ q.1 in
+      let flag = ltb-false 1 (get_or b 2 0) r.0 in
+      let type = a.type in
+      no_any (image_faults j b) (
+        equal_no (omega (arith, length_is, width_is)),
+        (equal_no (omega arith), (le-ltb 2 (hash_type_of b) (omega (arith, type_is)), (r.1, (equal_no (omega arith), (equal_no a.zero3, (judged e ∙ p.1, tt)))))),
       ))
-      ∙ simp or_assoc
+      (λ f.
+      let p = any_no (image_faults j b) f in
+      let long : length b ≡ image_length (hash_type_of b) (region_count_of b) = no_equal _ _ p.0 in
+      let high : get_or b 2 0 / 2 ≡ 0 = no_equal _ _ p.1.1.1.1.0 in
+      let width_long : length (rest_of b) ≡ width + region_length * region_count_of b = omega (arith, length_is, width_is) in
+      none (le-ltb 1 (get_or b 2 0) (omega arith)) p.1.1.1.0 (equal_no width_long) (sym (judged e) ∙ p.1.1.1.1.1.1.0)))
+    where
+      judged : u ≡ j.bad_regions regions (region_count_of b) → j.bad_regions (regions_of b) (region_count_of b) ≡ u
+      judged g = ap (λ (l : List ℕ). j.bad_regions l (region_count_of b)) (sym regions_apart) ∙ sym g
+
+      none : {x y z w : Bool} → x ≡ false → y ≡ false → z ≡ false → w ≡ false → (x || y || z || w) ≡ false
+      none f g h k = rw (f, g, h, k)
+
+  pub parts_apart : get_or b 2 0 ≤ 1
+      → ◌≡◌ {A = ImageFields × List ℕ × List ℕ} (record { hash_type = t; region_count = region_count_of b; must_validate = eqb (get_or b 2 0) 1 }, hash, regions) (image_parts b)
+  parts_apart h =
+      let flag : get_or b 2 0 ≡ get_or b 2 0 % 2 = omega arith in
+      λ i. (record { hash_type = type_is i; region_count = region_count_of b; must_validate = eqb (flag i) 1 }, hash_apart i, regions_apart i)
 
 -- ---- what was written is read back
 

@@ -1,4 +1,5 @@
 pub mod SignedImage
+pub mod Parts
 pub mod ByNumber
 pub mod Walks
 pub mod RoundTrips

@@ -3,11 +3,9 @@
 use Rattle.std.specs.Prelude.{ℕ, ◌+◌, ◌*◌, ◌/◌, ◌%◌, ◌^◌, Bool, not, ◌||◌, List, [], ◌∷◌, ◌++◌, length, get_or, take, drop, ltb, eqb}
 use Rattle.laws.specs.Tests.{any}
 use Rattle.refusal.specs.Steps.{Outcome, Reply, reply}
-use Rattle.hash.specs.Types.{hash_length, bad_hash_type}
+use Rattle.hash.specs.Types.{type_number, hash_length, bad_hash_type}
 use Rattle.regions.specs.declared.region.Region.{Region}
 use Rattle.signed_image.specs.declared.SignedImage.{SignedImage}
-use Rattle.signed_image.specs.declared.SignedImageRead.{SignedImageRead}
-use Rattle.signed_image.specs.declared.SignedImageRead.TheVariants.{Read, Malformed}
 use Rattle.element_parts.specs.Parts.{read_number, write_step, shown_part, item_number, item_count, bad_items}
 use Rattle.regions.specs.Region.{region_length, region_at, Judgement}
 
@@ -38,10 +36,6 @@ regions_of b = drop (image_head_length + hash_length (hash_type_of b)) b
 
 -- ---- the readers
 
-abbrev pub image_reply : SignedImageRead → Reply SignedImage
-image_reply (Read i) = record { number = 0; values = i ∷ [] }
-image_reply Malformed = record { number = 12; values = [] }
-
 abbrev pub image_faults : Judgement → List ℕ → List Bool
 image_faults j b =
     not (eqb (length b) (image_length (hash_type_of b) (region_count_of b)))
@@ -56,7 +50,16 @@ image_faults j b =
 unfoldable pub image_number : Judgement → List ℕ → ℕ
 image_number j b = read_number (any (image_faults j b))
 
-abbrev pub image_fields : List ℕ → SignedImage
+-- the fields, with the hash type by its number
+pub record ImageFields : Type 0 where
+  pub hash_type : ℕ
+  pub region_count : ℕ
+  pub must_validate : Bool
+
+abbrev pub image_fields_of : SignedImage → ImageFields
+image_fields_of i = record { hash_type = type_number i.hash_type; region_count = i.region_count; must_validate = i.must_validate }
+
+abbrev pub image_fields : List ℕ → ImageFields
 image_fields b = record { hash_type = hash_type_of b; region_count = region_count_of b; must_validate = must_validate_of b }
 
 -- "Readers show hash and regions as parts of the lent element"

@@ -4,135 +4,136 @@
 ghost use Rattle.std.specs.Prelude.{◌≡◌};
 ghost use Rattle.laws.specs.Tests.{bit_of};
 ghost use Rattle.refusal.specs.Refusals.{number_of};
-ghost use Rattle.refusal.specs.Steps.{outcome, reply};
-ghost use Rattle.element_parts.specs.Parts.{read_number};
-ghost use Rattle.regions.specs.Region.{end_is_last, region_reply};
-ghost use Rattle.signed_image.specs.SignedImage.{hash_type_of, image_reply, image_number, image_fields, image_hash, image_regions, image_region, image_fields_malformed, image_write_step};
+ghost use Rattle.refusal.specs.Steps.{outcome, reply, reply_of, reply_by};
+ghost use Rattle.regions.specs.Region.{end_is_last};
+ghost use Rattle.signed_image.specs.SignedImage.{image_number, image_fields_of, image_fields, image_hash, image_regions, image_region, image_fields_malformed, image_write_step};
+ghost use Rattle.signed_image.specs.Parts.{image_parts_of, image_parts};
 
-use hash::hash_length;
-use refusal::Verdict;
-use regions::region::{Region, RegionRead};
+use element_parts::{Run, write_verdict};
+use hash::{HashType, hash_length};
+use refusal::Refusal;
+use regions::region::Region;
 
 // The fields but for the hash and the regions, which are parts of the element.
-#[derive(Clone, Copy)]
+#[derive(Clone, Copy, Debug, PartialEq, Eq, Hash)]
 pub struct SignedImage {
-    pub hash_type: u8,
+    pub hash_type: HashType,
     pub region_count: u8,
     pub must_validate: bool,
 }
 
+// A sound element, taken apart: each reader shows one of these.
 #[derive(Clone, Copy)]
-pub enum SignedImageRead {
-    Read(SignedImage),
-    Malformed,
+struct Parts<'a> {
+    image: SignedImage,
+    hash: &'a [u8],
+    regions: &'a [u8],
+}
+
+#[tactic(auto, using(hash::proofs::Types::type_tried), unfolding(crate::specs::SignedImage::image_number))]
+fn take_apart(element: &[u8]) -> Result<Parts<'_>, Refusal>
+    ensures { reply_by image_parts_of result ≡ reply (image_number end_is_last element.now) (image_parts element.now) }
+{
+    let [kind, count, validate, 0, rest @ ..] = element else {
+        return Err(Refusal::MalformedElement);
+    };
+    let hash_type = HashType::try_from(*kind)?;
+    let width = hash_type.len();
+    let hash = octets::front(rest, width);
+    let regions = octets::behind(rest, width);
+    let malformed = (1 < *validate)
+        | (*count == 0)
+        | (rest.len() != width + Region::LEN * *count as usize)
+        | Region::any_unsound(regions, *count);
+    if malformed {
+        return Err(Refusal::MalformedElement);
+    }
+    let image = SignedImage {
+        hash_type,
+        region_count: *count,
+        must_validate: *validate == 1,
+    };
+    Ok(Parts {
+        image,
+        hash,
+        regions,
+    })
 }
 
 impl SignedImage {
     // The bytes before the hash.
     const HEAD_LEN: usize = 4;
 
-    pub fn read(element: &[u8]) -> SignedImageRead
-        ensures { image_reply result ≡ reply (image_number end_is_last element.now) (image_fields element.now) }
+    pub fn read(element: &[u8]) -> Result<SignedImage, Refusal>
+        ensures { reply_by image_fields_of result ≡ reply (image_number end_is_last element.now) (image_fields element.now) }
     {
-        if SignedImage::malformed(element) {
-            return SignedImageRead::Malformed;
-        }
-        let validate = octets::byte_at(element, 2) & 1;
-        SignedImageRead::Read(SignedImage {
-            hash_type: SignedImage::hash_type_of(element),
-            region_count: octets::byte_at(element, 1),
-            must_validate: validate == 1,
-        })
+        Ok(take_apart(element)?.image)
     }
 
-    // The hash, as a part of the element; empty where the element is malformed.
+    // The hash, as a part of the element. A call that answers a part of what was lent gives an empty one where it refuses; `read` gives the number.
     pub fn hash(element: &[u8]) -> &[u8]
         ensures { result.now ≡ image_hash end_is_last element.now }
     {
-        if SignedImage::malformed(element) {
-            return &element[..0];
+        match take_apart(element) {
+            Ok(parts) => parts.hash,
+            Err(_) => &[],
         }
-        let rest = octets::behind(element, SignedImage::HEAD_LEN);
-        octets::front(rest, hash_length(SignedImage::hash_type_of(element)))
     }
 
-    // The regions, as a part of the element; empty where the element is malformed.
+    // The regions, as a part of the element; empty where the element is malformed, as with the hash.
     pub fn regions(element: &[u8]) -> &[u8]
         ensures { result.now ≡ image_regions end_is_last element.now }
     {
-        if SignedImage::malformed(element) {
-            return &element[..0];
+        match take_apart(element) {
+            Ok(parts) => parts.regions,
+            Err(_) => &[],
         }
-        let width = hash_length(SignedImage::hash_type_of(element));
-        octets::behind(element, SignedImage::HEAD_LEN + width)
     }
 
     // Region i, from 0; malformed where the element is, or has no such region. A walk over all of them asks for the regions once, and then `Region::nth`.
-    pub fn region(element: &[u8], i: usize) -> RegionRead
-        ensures { region_reply result ≡ image_region end_is_last element.now i }
+    pub fn region(element: &[u8], i: usize) -> Result<Region, Refusal>
+        ensures { reply_of result ≡ image_region end_is_last element.now i }
     {
         Region::nth(SignedImage::regions(element), i)
     }
 
+    #[tactic(auto, using(octets::proofs::Parts::put_three, laws::proofs::Tests::bit_byte), unfolding(crate::specs::SignedImage::image_fields_malformed))]
     pub fn write(
         hash_type: u8,
         must_validate: bool,
         hash: &[u8],
         regions: &[u8],
         buffer: &mut [u8],
-    ) -> Verdict
+    ) -> Result<(), Refusal>
         ensures { outcome (number_of result) buffer.new ≡ image_write_step end_is_last hash_type (bit_of must_validate) hash.now regions.now buffer.old }
     {
         let malformed = SignedImage::fields_malformed(hash_type, hash, regions);
-        // A sound hash is as long as its type says. The sum with the length of any other hash could be too big for a usize.
-        let start = SignedImage::HEAD_LEN + hash_length(hash_type);
-        let verdict = element_parts::write_verdict(malformed, start + regions.len(), buffer.len());
-        let Verdict::Accepted = verdict else {
-            return verdict;
+        let start = SignedImage::HEAD_LEN + hash.len();
+        // No buffer is as long as a sum that doesn't fit.
+        write_verdict(malformed, start.saturating_add(regions.len()), buffer.len())?;
+        let run = Run {
+            bytes: regions,
+            width: Region::LEN,
         };
-        let count = element_parts::item_count(regions, Region::LEN) as u8;
-        let head = [hash_type, count, must_validate as u8, 0];
-        octets::put(buffer, 0, &head);
+        let count = run.count() as u8;
+        octets::put(buffer, 0, &[hash_type, count, must_validate as u8, 0]);
         octets::put(buffer, SignedImage::HEAD_LEN, hash);
-        octets::put(buffer, SignedImage::HEAD_LEN + hash.len(), regions);
-        verdict
+        octets::put(buffer, start, regions);
+        Ok(())
     }
 
-    fn hash_type_of(element: &[u8]) -> u8
-        ensures { result ≡ hash_type_of element.now }
-    {
-        octets::byte_at(element, 0) & 7
-    }
-
-    fn malformed(element: &[u8]) -> bool
-        ensures { read_number result ≡ image_number end_is_last element.now }
-    {
-        let hash_type = SignedImage::hash_type_of(element);
-        let count = octets::byte_at(element, 1);
-        let n = count as usize;
-        let start = SignedImage::HEAD_LEN + hash_length(hash_type);
-        let regions = octets::behind(element, start);
-        (element.len() != start + Region::LEN * n)
-            | (octets::byte_at(element, 0) >> 3 != 0)
-            | (2 < hash_type)
-            | (count == 0)
-            | (octets::byte_at(element, 2) >> 1 != 0)
-            | (octets::byte_at(element, 3) != 0)
-            | Region::any_unsound(regions, count)
-    }
-
+    #[tactic(auto, unfolding(crate::specs::SignedImage::image_fields_malformed))]
     fn fields_malformed(hash_type: u8, hash: &[u8], regions: &[u8]) -> bool
         ensures { result ≡ image_fields_malformed end_is_last hash_type hash.now regions.now }
     {
-        let width = hash_length(hash_type);
-        if (2 < hash_type)
-            | (hash.len() != width)
-            | element_parts::bad_items(regions, Region::LEN)
-        {
-            return true;
-        }
-        // At most 255 regions are left to look at, however many bytes were lent.
-        let count = element_parts::item_count(regions, Region::LEN) as u8;
-        Region::any_unsound(regions, count)
+        let run = Run {
+            bytes: regions,
+            width: Region::LEN,
+        };
+        // At most 255 regions are left to look at where the run isn't bad, however many bytes were lent.
+        HashType::try_from(hash_type).is_err()
+            || hash.len() != hash_length(hash_type)
+            || run.bad()
+            || Region::any_unsound(regions, run.count() as u8)
     }
 }
