@@ -6,8 +6,16 @@ mod kept_registers;
 mod records;
 
 use report::Report;
+use std::fmt;
+
+fn run<W: fmt::Write>(out: &mut W) -> fmt::Result {
+    records::run(out)?;
+    kept_registers::run(out)
+}
 
 fn main(rt: HostRuntime) {
-    let r1 = records::run(Report::new(rt));
-    kept_registers::run(r1).end();
+    let mut report = Report::new(rt);
+    // The report has said on standard error what couldn't be written.
+    let _ = run(&mut report);
+    report.end();
 }
