@@ -1,5 +1,4 @@
-pub mod Answers
-pub mod Replies
+pub mod Kept
 pub mod Meanings
 pub mod Parts
 pub mod ReadOut

@@ -6,9 +6,8 @@ use mathlib.Core.List.{List, [], ◌∷◌}
 use native.Mathlib.Omega.{arith}
 use native.Mathlib.Nat.{mul-le-mul_left, le_of_lt}
 use lib.ListN.{length, take, drop}
-use lib.Dec.{eqb, ltb}
-use Rattle.refusal.specs.Rules.{◌when◌else◌, first◌then◌}
-use Rattle.refusal.proofs.Laws.{accepted_yes, first_accepted}
+use lib.Dec.{eqb}
+use Rattle.refusal.proofs.Laws.{accepted_yes}
 use Rattle.log_entry.specs.Entry.{entry_length}
 use Rattle.attestation_log.specs.State.{State}
 use Rattle.attestation_log.specs.Calls.{read_out_step}
@@ -16,7 +15,7 @@ use Rattle.attestation_log.proofs.Answers.{read_bytes}
 use Rattle.manifest_slot.specs.declared.Role.{Role}
 use Rattle.manifest_slot.specs.Slot.{Held}
 use Rattle.slot_state.specs.State.{received_of}
-use Rattle.manifest_slot.specs.Calls.{lent_number, manifest_of, read_step}
+use Rattle.manifest_slot.specs.Calls.{manifest_of}
 use Rattle.hash.specs.Types.{hash_length}
 use Rattle.regions.specs.Region.{end_is_last}
 use Rattle.signed_image.specs.SignedImage.{hash_of}
@@ -25,7 +24,7 @@ use Rattle.root_cas.specs.RootCas.{roots_hash, roots_hash_number}
 use Rattle.root_cas.proofs.Roots.{roots_element, hash_accepted}
 use Rattle.root_cas.proofs.ByNumber.{by_number}
 use Rattle.c_encoding.specs.Roles.{role_of}
-use Rattle.cerberus.specs.Calls.{manifest_number, manifest_step, hash_place}
+use Rattle.cerberus.specs.Calls.{manifest_step, hash_place}
 use Rattle.cerberus.specs.Laws.{PartLaws}
 
 -- a part that is the front of a list is found there by its length
@@ -72,15 +71,3 @@ pub hash_within : (hash_type : ℕ) (b : List ℕ) (index : ℕ) → roots_hash_
 hash_within t b i e =
     let k = hash_accepted t b i e in
     omega (arith, (roots_element t b k.0).long, mul-le-mul_left (hash_length t) (le_of_lt k.1))
-
--- ---- the manifest of a role: what is asked of the slot, and then of the role
-
-pub manifest_number_law : (role : ℕ) (h : Held) {n lent range : ℕ} → n ≡ (first lent then range) → lent ≡ lent_number h → range ≡ (5 when ltb 1 role else 0)
-    → n ≡ manifest_number role h
-unfolding manifest_number
-manifest_number_law role h e p q = e ∙ (λ i. first p i then q i)
-
-pub manifest_read : (role : ℕ) (h : Held) → manifest_number role h ≡ 0 → (read_step (role_of role) h).after ≡ (manifest_step role h).after
-unfolding manifest_number manifest_step read_step
-manifest_read role h e =
-    accepted_yes (manifest_of (role_of role) h) [] (first_accepted (lent_number h) _ e).0 ∙ sym (accepted_yes (manifest_of (role_of role) h) [] e)

@@ -1,4 +1,4 @@
--- A register read and a read-out, as C is told of them.
+-- A read-out, as C is told of it.
 use Prim.Native.Nat.{ℕ, ◌*◌, ◌≤◌}
 use mathlib.Core.Path.{◌≡◌, refl, sym, ap, ◌∙◌}
 use mathlib.Core.List.{List}
@@ -6,20 +6,10 @@ use native.Mathlib.Omega.{arith}
 use lib.ListN.{length}
 use lib.Seq.{length-take-le}
 use Rattle.log_history.specs.History.{capacity, entry_length}
-use Rattle.log_verdicts.specs.Numbers.{register_number}
-use Rattle.log_verdicts.proofs.Numbers.{check_accepted}
+use Rattle.attestation_log.proofs.Numbers.{check_accepted}
 use Rattle.attestation_log.specs.State.{State}
-use Rattle.attestation_log.specs.Calls.{register_step, read_out_step, read_out_verdict_step}
-use Rattle.attestation_log.specs.Answers.{register_bytes}
+use Rattle.attestation_log.specs.Calls.{read_out_step, read_out_verdict_step}
 use Rattle.attestation_log.proofs.Answers.{read_bytes}
-
--- the bytes beside an accepted register read's verdict are the register
-pub register_shown : (pmr : ℕ) (s : State) (buffer : List ℕ) → (register_step pmr s buffer).number ≡ 0
-    → register_bytes pmr s buffer ≡ (register_step pmr s buffer).after.bytes
-unfolding register_bytes register_step
-register_shown pmr s buffer e =
-    let z : register_number pmr s.count s.pmrs buffer ≡ 0 = e in
-    rw z
 
 -- a read-out has its companion's number, and the length of all entries
 pub read_out_number : (s : State) (buffer : List ℕ) → (read_out_verdict_step s buffer).number ≡ (read_out_step s buffer).number
@@ -28,11 +18,11 @@ read_out_number s buffer = refl
 
 pub read_out_few : (s : State) (buffer : List ℕ) → (read_out_step s buffer).number ≡ 0 → s.count ≤ capacity
 unfolding read_out_step
-read_out_few s buffer e = (check_accepted s.count s.pmrs buffer e).counts.few
+read_out_few s buffer e = (check_accepted s buffer e).counts.few
 
 pub read_out_length : (s : State) (buffer : List ℕ) → (read_out_step s buffer).number ≡ 0 → entry_length * s.count ≡ length (read_out_step s buffer).after.bytes
 unfolding read_out_step
 read_out_length s buffer e =
-    let k = check_accepted s.count s.pmrs buffer e in
+    let k = check_accepted s buffer e in
     let fits : entry_length * s.count ≤ length buffer = omega (arith, k.counts.few, k.right) in
     sym (ap length (sym (read_bytes s buffer e)) ∙ length-take-le (entry_length * s.count) buffer fits)

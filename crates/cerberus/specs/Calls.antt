@@ -1,9 +1,8 @@
 -- What the C calls answer and leave, by the definitions of the calls that they stand for. A refused call writes to no pointer.
-use Rattle.std.specs.Prelude.{ℕ, ◌+◌, ◌*◌, Bool, List, [], length, ltb, eqb}
-use Rattle.std.proofs.Math.Option.{Option, none, some}
-use Rattle.refusal.specs.declared.Verdict.{Verdict}
-use Rattle.refusal.specs.declared.Verdict.TheVariants.{Accepted, Refused}
-use Rattle.refusal.specs.Refusals.{number_of, verdict_of, meaning_of, longest_meaning}
+use Rattle.std.specs.Prelude.{ℕ, ◌+◌, ◌*◌, Bool, List, [], Option, None, Some, Result, Ok, Err, length, ltb, is_err}
+use Rattle.refusal.specs.declared.Refusal.{Refusal}
+use Rattle.refusal.specs.declared.NoRefusal.{NoRefusal}
+use Rattle.refusal.specs.Refusals.{refusal_of, meaning_of, longest_meaning}
 use Rattle.refusal.specs.Steps.{Outcome, outcome, decided}
 use Rattle.octets.specs.Octets.{pasted}
 use Rattle.refusal.specs.Rules.{◌when◌else◌, first◌then◌}
@@ -14,7 +13,7 @@ use Rattle.certificate_slots.specs.Slots.{chain_count, lowest_chain}
 use Rattle.hash.specs.Types.{hash_length}
 use Rattle.regions.specs.declared.region.Region.{Region}
 use Rattle.regions.specs.RwRegion.{RwFields}
-use Rattle.signed_image.specs.declared.SignedImage.{SignedImage}
+use Rattle.signed_image.specs.SignedImage.{ImageFields}
 use Rattle.root_cas.specs.declared.RootCas.{RootCas}
 use Rattle.root_cas.specs.RootCas.{roots_head_length}
 use Rattle.c_encoding.specs.Roles.{role_of}
@@ -23,7 +22,7 @@ use Rattle.c_encoding.specs.Roles.{role_of}
 
 -- no refusal has this number
 abbrev pub no_refusal : ℕ → Bool
-no_refusal n = eqb (number_of (verdict_of n)) 0
+no_refusal n = is_err (refusal_of n)
 
 unfoldable pub meaning_number : ℕ → List ℕ → ℕ
 meaning_number n text =
@@ -31,14 +30,14 @@ meaning_number n text =
     5 when no_refusal n else
     0
 
-abbrev pub meaning_bytes : Verdict → List ℕ
-meaning_bytes Accepted = []
-meaning_bytes (Refused why) = meaning_of why
+abbrev pub meaning_bytes : Result Refusal NoRefusal → List ℕ
+meaning_bytes (Ok why) = meaning_of why
+meaning_bytes (Err none) = []
 
 -- the text and the length behind the pointers
 unfoldable pub meaning_step : ℕ → List ℕ → ℕ → Outcome (List ℕ × ℕ)
 meaning_step n text len =
-    let meaning = meaning_bytes (verdict_of n) in
+    let meaning = meaning_bytes (refusal_of n) in
     decided (meaning_number n text) (text, len) (pasted text 0 meaning, length meaning)
 
 -- ---- the manifest of a role: "0 active, 1 pending"; another number is 5, after the slot's own refusals
@@ -61,7 +60,7 @@ abbrev pub rw_values : RwFields → ℕ × ℕ × ℕ
 rw_values f = (f.operation, f.region.start, f.region.end)
 
 -- hash type, region count, must-validate bit, and the hash's length
-abbrev pub image_values : SignedImage → ℕ × ℕ × ℕ × ℕ
+abbrev pub image_values : ImageFields → ℕ × ℕ × ℕ × ℕ
 image_values i = (i.hash_type, i.region_count, bit_of i.must_validate, hash_length i.hash_type)
 
 -- count, and each hash's length
@@ -75,8 +74,8 @@ hash_place hash_type index = (roots_head_length + hash_length hash_type * index,
 -- ---- certificate slots: the lowest slot, "or CERBERUS_NO_CHAIN if none does"
 
 abbrev pub slot_number : Option ℕ → ℕ
-slot_number none = 255
-slot_number (some k) = k
+slot_number None = 255
+slot_number (Some k) = k
 
 -- how many slots hold a chain, and the lowest that does
 abbrev pub chains_told : ℕ → Outcome (ℕ × ℕ)

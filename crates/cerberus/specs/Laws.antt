@@ -1,8 +1,7 @@
 -- What holds of the numbers that C holds.
-use Rattle.std.specs.Prelude.{ℕ, ◌+◌, ◌≤◌, ◌≡◌, false, cond, List, length, take, drop, eqb}
+use Rattle.std.specs.Prelude.{ℕ, ◌+◌, ◌≤◌, ◌≡◌, cond, List, Ok, length, take, drop, eqb}
 use Rattle.refusal.specs.declared.Refusal.{Refusal}
-use Rattle.refusal.specs.declared.Verdict.TheVariants.{Refused}
-use Rattle.refusal.specs.Refusals.{refusal_number, number_of, verdict_of, meaning_of, longest_meaning}
+use Rattle.refusal.specs.Refusals.{refusal_number, refusal_of, meaning_of, longest_meaning}
 use Rattle.attestation_log.specs.State.{State}
 use Rattle.attestation_log.specs.Calls.{read_out_step}
 use Rattle.manifest_slot.specs.Slot.{Held}
@@ -10,15 +9,15 @@ use Rattle.hash.specs.Types.{hash_length}
 use Rattle.regions.specs.Region.{end_is_last}
 use Rattle.signed_image.specs.SignedImage.{image_head_length, hash_type_of, image_number, image_hash, image_regions}
 use Rattle.root_cas.specs.RootCas.{roots_hash, roots_hash_number}
-use Rattle.cerberus.specs.Calls.{no_refusal, manifest_step, hash_place}
+use Rattle.cerberus.specs.Calls.{manifest_step, hash_place}
 
 -- ---- the refusals' meaning
 
 pub record MeaningLaws : Type 0 where
   -- each refusal is the one whose meaning is put for its number
-  pub named : (why : Refusal) → verdict_of (refusal_number why) ≡ Refused why
+  pub named : (why : Refusal) → refusal_of (refusal_number why) ≡ Ok why
   -- no other number has one
-  pub others : (n : ℕ) → no_refusal n ≡ false → number_of (verdict_of n) ≡ n
+  pub others : (n : ℕ) (why : Refusal) → refusal_of n ≡ Ok why → refusal_number why ≡ n
   -- a text that is not refused has room for each meaning
   pub fits : (why : Refusal) → length (meaning_of why) ≤ longest_meaning
 

@@ -4,8 +4,9 @@ ghost use Rattle.refusal.specs.Steps.{outcome};
 ghost use Rattle.pairing.specs.Pairing.{pairing_step};
 ghost use Rattle.cerberus.specs.Calls.{chains_told};
 
-use certificate_slots::{Lowest, SlotMask};
+use certificate_slots::SlotMask;
 use pairing::pairing_key;
+use refusal::number_of;
 
 const NO_CHAIN: u8 = 255;
 
@@ -13,8 +14,7 @@ const NO_CHAIN: u8 = 255;
 pub extern "C" fn cerberus_pairing_key(session_key: &[u8], key: &mut [u8]) -> u8
     ensures { outcome result key.new ≡ pairing_step session_key.now key.old }
 {
-    let verdict = pairing_key(session_key, key);
-    verdict.number()
+    number_of(&pairing_key(session_key, key))
 }
 
 #[unsafe(no_mangle)]
@@ -23,14 +23,9 @@ pub extern "C" fn cerberus_certificate_slots(mask: u8, count: &mut u8, lowest: &
 {
     let slots = SlotMask(mask);
     *count = slots.chain_count();
-    let first = slots.lowest();
-    match first {
-        Lowest::NoChain => {
-            *lowest = NO_CHAIN;
-        }
-        Lowest::Slot(slot) => {
-            *lowest = slot.0;
-        }
-    }
+    *lowest = match slots.lowest() {
+        Some(slot) => slot.0,
+        None => NO_CHAIN,
+    };
     0
 }

@@ -5,16 +5,15 @@ ghost use Rattle.log_text.specs.Texts.{text_number};
 ghost use Rattle.c_encoding.specs.Comparisons.{compared_in};
 
 use c_encoding::comparison_bytes::{COMPARISON_LEN, comparison_bytes};
-use log_comparison::{Judged, compare};
+use log_comparison::{RefusedLog, compare};
 use log_text::check_text;
+use refusal::number_of;
 
 #[unsafe(no_mangle)]
 pub extern "C" fn cerberus_log_text_verdict(text: &[u8]) -> u8
     ensures { result ≡ text_number text.now }
 {
-    let checked = check_text(text);
-    let verdict = checked.verdict;
-    verdict.number()
+    number_of(&check_text(text))
 }
 
 #[unsafe(no_mangle)]
@@ -25,15 +24,11 @@ pub extern "C" fn cerberus_log_compare(
 ) -> u8
     ensures { outcome result comparison.new ≡ compared_in left.now right.now comparison.old }
 {
-    let compared = compare(left, right);
-    let judged = compared.judged;
-    match judged {
-        Judged::LeftRefused(why) => why.number(),
-        Judged::RightRefused(why) => why.number(),
-        Judged::Accepted => {
-            let pmrs = compared.pmrs;
-            *comparison = comparison_bytes(pmrs);
+    match compare(left, right) {
+        Ok(pmrs) => {
+            *comparison = comparison_bytes(&pmrs);
             0
         }
+        Err(RefusedLog::Left(why) | RefusedLog::Right(why)) => why.number(),
     }
 }

@@ -7,8 +7,8 @@ ghost use Rattle.c_encoding.specs.Answers.{shown};
 ghost use Rattle.cerberus.specs.Calls.{addresses, image_values};
 
 use crate::flash_regions::show_region;
-use refusal::Refusal;
-use signed_image::{SignedImage, SignedImageRead};
+use refusal::{Refusal, number_of};
+use signed_image::SignedImage;
 
 #[unsafe(no_mangle)]
 pub extern "C" fn cerberus_signed_image_read(
@@ -21,16 +21,15 @@ pub extern "C" fn cerberus_signed_image_read(
     ensures { outcome result (hash_type.new, region_count.new, must_validate.new, hash_len.new)
         ≡ shown (reply (image_number end_is_last element.now) (image_fields element.now)) image_values (hash_type.old, region_count.old, must_validate.old, hash_len.old) }
 {
-    let read = SignedImage::read(element);
-    match read {
-        SignedImageRead::Malformed => Refusal::MalformedElement.number(),
-        SignedImageRead::Read(image) => {
-            *hash_type = image.hash_type;
+    match SignedImage::read(element) {
+        Ok(image) => {
+            *hash_type = image.hash_type.number();
             *region_count = image.region_count;
-            *must_validate = image.must_validate as u8;
-            *hash_len = hash::hash_length(image.hash_type);
+            *must_validate = u8::from(image.must_validate);
+            *hash_len = image.hash_type.len();
             0
         }
+        Err(why) => why.number(),
     }
 }
 
@@ -59,5 +58,6 @@ pub extern "C" fn cerberus_signed_image_write(
     if 1 < must_validate {
         return Refusal::MalformedElement.number();
     }
-    SignedImage::write(hash_type, must_validate == 1, hash, regions, buffer).number()
+    let written = SignedImage::write(hash_type, must_validate == 1, hash, regions, buffer);
+    number_of(&written)
 }

@@ -13,3 +13,4 @@ pub mod messages;
 pub mod refusals;
 pub mod roots;
 pub mod slots;
+mod told;

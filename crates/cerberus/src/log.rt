@@ -5,31 +5,24 @@ ghost use Rattle.refusal.specs.Steps.{outcome, decided};
 ghost use Rattle.attestation_log.specs.Calls.{reset_step, record_step, register_step, read_out_step, read_out_verdict_step, check_step, replay_step};
 ghost use Rattle.c_encoding.specs.Logs.{log_bytes, log_of, c_log, log_step, bytes_read, length_read};
 
+use crate::told::keep;
 use attestation_log::{Answer, Log, Pmr};
 use c_encoding::log_states::{LOG_LEN, bytes_of, log_of};
-use refusal::Verdict;
+use refusal::number_of;
 
-// Keeps the next state of an accepted call, and answers the call's number.
-fn store(log: &mut [u8; LOG_LEN], answer: Answer) -> u8
+// Keeps the next state of an accepted record, and answers the call's number.
+#[tactic(auto, using(crate::proofs::Kept::told_kept))]
+fn store(answer: Answer, log: &mut [u8; LOG_LEN]) -> u8
     ensures { outcome result log.new ≡ decided (number_of answer.verdict) log.old (log_bytes answer.log) }
 {
-    let verdict = answer.verdict;
-    match verdict {
-        Verdict::Refused(why) => why.number(),
-        Verdict::Accepted => {
-            let next = answer.log;
-            *log = bytes_of(next);
-            0
-        }
-    }
+    keep(answer.verdict.and(Ok(bytes_of(answer.log))), log)
 }
 
 #[unsafe(no_mangle)]
 pub extern "C" fn cerberus_log_reset(log: &mut [u8; LOG_LEN], buffer: &mut [u8]) -> u8
     ensures { outcome result (c_log log.new buffer.new) ≡ log_step reset_step (c_log log.old buffer.old) }
 {
-    let answer = Log::reset(buffer);
-    store(log, answer)
+    keep(Log::reset(buffer).map(bytes_of), log)
 }
 
 #[unsafe(no_mangle)]
@@ -43,10 +36,8 @@ pub extern "C" fn cerberus_log_record(
     ensures { outcome result (c_log log.new buffer.new)
         ≡ log_step (record_step (record { pmr = pmr; event_type = event_type; digest = digest.now })) (c_log log.old buffer.old) }
 {
-    let state = *log;
-    let bytes = *digest;
-    let answer = log_of(state).record(Pmr(pmr), event_type, bytes, buffer);
-    store(log, answer)
+    let answer = log_of(log).record(Pmr(pmr), event_type, *digest, buffer);
+    store(answer, log)
 }
 
 #[unsafe(no_mangle)]
@@ -58,16 +49,7 @@ pub extern "C" fn cerberus_log_register(
 ) -> u8
     ensures { outcome result value.new ≡ bytes_read (register_step pmr) (c_log log.now buffer.now) value.old }
 {
-    let state = *log;
-    let read = log_of(state).register(Pmr(pmr), buffer);
-    let verdict = read.verdict;
-    let number = verdict.number();
-    if 0 < number {
-        return number;
-    }
-    let bytes = read.bytes;
-    *value = bytes;
-    number
+    keep(log_of(log).register(Pmr(pmr), buffer), value)
 }
 
 // The length is worked out from the count: asking read_out too would check the log twice.
@@ -79,15 +61,13 @@ pub extern "C" fn cerberus_log_read_out(
 ) -> u8
     ensures { outcome result text_len.new ≡ length_read read_out_step (c_log log.now buffer.now) text_len.old }
 {
-    let bytes = *log;
-    let state = log_of(bytes);
-    let verdict = state.read_out_verdict(buffer);
-    match verdict {
-        Verdict::Refused(why) => why.number(),
-        Verdict::Accepted => {
+    let state = log_of(log);
+    match state.read_out_verdict(buffer) {
+        Ok(()) => {
             *text_len = Log::ENTRY_LEN * state.count;
             0
         }
+        Err(why) => why.number(),
     }
 }
 
@@ -95,22 +75,19 @@ pub extern "C" fn cerberus_log_read_out(
 pub extern "C" fn cerberus_log_read_out_verdict(log: &[u8; LOG_LEN], buffer: &[u8]) -> u8
     ensures { result ≡ (read_out_verdict_step (log_of log.now) buffer.now).number }
 {
-    let state = *log;
-    log_of(state).read_out_verdict(buffer).number()
+    number_of(&log_of(log).read_out_verdict(buffer))
 }
 
 #[unsafe(no_mangle)]
 pub extern "C" fn cerberus_log_check(log: &[u8; LOG_LEN], buffer: &[u8]) -> u8
     ensures { result ≡ (check_step (log_of log.now) buffer.now).number }
 {
-    let state = *log;
-    log_of(state).check(buffer).number()
+    number_of(&log_of(log).check(buffer))
 }
 
 #[unsafe(no_mangle)]
 pub extern "C" fn cerberus_log_replay(log: &mut [u8; LOG_LEN], text: &[u8], buffer: &mut [u8]) -> u8
     ensures { outcome result (c_log log.new buffer.new) ≡ log_step (replay_step text.now) (c_log log.old buffer.old) }
 {
-    let answer = Log::replay(text, buffer);
-    store(log, answer)
+    keep(Log::replay(text, buffer).map(bytes_of), log)
 }

@@ -9,17 +9,14 @@ ghost use Rattle.c_encoding.specs.Messages.{c_served, served_step};
 use c_encoding::flags::yes;
 use c_encoding::slot_numbers::{numbers_of, slot_of};
 use commands::command;
-use message_header::{Heading, command_of};
+use message_header::command_of;
+use refusal::number_of;
 
 #[unsafe(no_mangle)]
 pub extern "C" fn cerberus_header(message: &[u8]) -> u8
     ensures { result ≡ (command_of message.now).number }
 {
-    let heading = command_of(message);
-    match heading {
-        Heading::Refused(why) => why.number(),
-        Heading::Named(_) => 0,
-    }
+    number_of(&command_of(message))
 }
 
 #[unsafe(no_mangle)]
@@ -35,16 +32,14 @@ pub extern "C" fn cerberus_command(
     ensures { outcome result (c_served (c_slot slot.new pending.new active.new) response.new written.new)
         ≡ served_step (command_step (eqb signature_good 1) message.now) (c_served (c_slot slot.old pending.old active.old) response.old written.old) }
 {
-    let numbers = *slot;
     let good = yes(signature_good);
-    let answer = command(slot_of(numbers), good, message, pending, active, response);
-    let verdict = answer.verdict;
-    let number = verdict.number();
-    if 0 < number {
-        return number;
+    let answer = command(slot_of(slot), good, message, pending, active, response);
+    match answer.verdict {
+        Ok(count) => {
+            *slot = numbers_of(answer.slot);
+            *written = count;
+            0
+        }
+        Err(why) => why.number(),
     }
-    let next = answer.slot;
-    *slot = numbers_of(next);
-    *written = answer.written;
-    0
 }

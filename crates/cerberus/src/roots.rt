@@ -5,8 +5,8 @@ ghost use Rattle.root_cas.specs.RootCas.{roots_number, roots_fields, roots_hash_
 ghost use Rattle.c_encoding.specs.Answers.{shown};
 ghost use Rattle.cerberus.specs.Calls.{roots_values, hash_place};
 
-use refusal::{Refusal, Verdict};
-use root_cas::{RootCas, RootCasRead};
+use refusal::number_of;
+use root_cas::RootCas;
 
 #[unsafe(no_mangle)]
 pub extern "C" fn cerberus_root_cas_read(
@@ -18,14 +18,13 @@ pub extern "C" fn cerberus_root_cas_read(
     ensures { outcome result (count.new, hash_len.new)
         ≡ shown (reply (roots_number hash_type element.now) (roots_fields element.now)) (roots_values hash_type) (count.old, hash_len.old) }
 {
-    let read = RootCas::read(hash_type, element);
-    match read {
-        RootCasRead::Malformed => Refusal::MalformedElement.number(),
-        RootCasRead::Read(roots) => {
+    match RootCas::read(hash_type, element) {
+        Ok(roots) => {
             *count = roots.count;
             *hash_len = hash::hash_length(hash_type);
             0
         }
+        Err(why) => why.number(),
     }
 }
 
@@ -40,19 +39,20 @@ pub extern "C" fn cerberus_root_cas_hash(
     ensures { outcome result (offset.new, hash_len.new)
         ≡ decided (roots_hash_number hash_type element.now index) (offset.old, hash_len.old) (hash_place hash_type index) }
 {
-    let verdict = RootCas::hash_verdict(hash_type, element, index);
-    let Verdict::Accepted = verdict else {
-        return verdict.number();
-    };
-    let width = hash::hash_length(hash_type);
-    *offset = RootCas::HEAD_LEN + width * index;
-    *hash_len = width;
-    0
+    match RootCas::hash_verdict(hash_type, element, index) {
+        Ok(()) => {
+            let width = hash::hash_length(hash_type);
+            *offset = RootCas::HEAD_LEN + width * index;
+            *hash_len = width;
+            0
+        }
+        Err(why) => why.number(),
+    }
 }
 
 #[unsafe(no_mangle)]
 pub extern "C" fn cerberus_root_cas_write(hash_type: u8, hashes: &[u8], buffer: &mut [u8]) -> u8
     ensures { outcome result buffer.new ≡ roots_write_step hash_type hashes.now buffer.old }
 {
-    RootCas::write(hash_type, hashes, buffer).number()
+    number_of(&RootCas::write(hash_type, hashes, buffer))
 }

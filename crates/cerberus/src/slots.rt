@@ -7,11 +7,11 @@ ghost use Rattle.c_encoding.specs.Answers.{length_shown};
 ghost use Rattle.c_encoding.specs.Slots.{numbers_of, c_slot, held_in, slot_step};
 ghost use Rattle.cerberus.specs.Calls.{manifest_step};
 
+use crate::told::keep;
 use c_encoding::flags::yes;
-use c_encoding::roles::{role_of, role_verdict};
+use c_encoding::roles::role_of;
 use c_encoding::slot_numbers::{numbers_of, slot_of};
-use manifest_slot::{Answer, Opening, Slot};
-use refusal::first;
+use manifest_slot::{Answer, Slot};
 
 #[unsafe(no_mangle)]
 pub extern "C" fn cerberus_slot_open(
@@ -22,28 +22,15 @@ pub extern "C" fn cerberus_slot_open(
 ) -> u8
     ensures { outcome result (c_slot slot.new pending.new active.new) ≡ slot_step (open_step magic) (c_slot slot.old pending.old active.old) }
 {
-    let opening = Slot::open(magic, pending, active);
-    match opening {
-        Opening::Refused(why) => why.number(),
-        Opening::Opened(opened) => {
-            *slot = numbers_of(opened);
-            0
-        }
-    }
+    keep(Slot::open(magic, pending, active).map(numbers_of), slot)
 }
 
 // Keeps the next slot of an accepted call, and answers the call's number.
-fn store(slot: &mut [u64; 6], answer: Answer) -> u8
+#[tactic(auto, using(crate::proofs::Kept::told_kept))]
+fn store(answer: Answer, slot: &mut [u64; 6]) -> u8
     ensures { outcome result slot.new ≡ decided (number_of answer.verdict) slot.old (numbers_of answer.slot) }
 {
-    let verdict = answer.verdict;
-    let number = verdict.number();
-    if 0 < number {
-        return number;
-    }
-    let next = answer.slot;
-    *slot = numbers_of(next);
-    0
+    keep(answer.verdict.and(Ok(numbers_of(answer.slot))), slot)
 }
 
 #[unsafe(no_mangle)]
@@ -55,9 +42,8 @@ pub extern "C" fn cerberus_slot_prepare(
 ) -> u8
     ensures { outcome result (c_slot slot.new pending.now active.now) ≡ slot_step (prepare_step total) (c_slot slot.old pending.now active.now) }
 {
-    let numbers = *slot;
-    let answer = slot_of(numbers).prepare(total as u64, pending, active);
-    store(slot, answer)
+    let answer = slot_of(slot).prepare(u64::from(total), pending, active);
+    store(answer, slot)
 }
 
 #[unsafe(no_mangle)]
@@ -70,9 +56,8 @@ pub extern "C" fn cerberus_slot_update(
     ensures { outcome result (c_slot slot.new pending.new active.now)
         ≡ slot_step (update_step payload.now) (c_slot slot.old pending.old active.now) }
 {
-    let numbers = *slot;
-    let answer = slot_of(numbers).update(payload, pending, active);
-    store(slot, answer)
+    let answer = slot_of(slot).update(payload, pending, active);
+    store(answer, slot)
 }
 
 #[unsafe(no_mangle)]
@@ -85,12 +70,11 @@ pub extern "C" fn cerberus_slot_activate(
     ensures { outcome result (c_slot slot.new pending.now active.new)
         ≡ slot_step (activate_step (eqb signature_good 1)) (c_slot slot.old pending.now active.old) }
 {
-    let numbers = *slot;
-    let good = yes(signature_good);
-    let answer = slot_of(numbers).activate(good, pending, active);
-    store(slot, answer)
+    let answer = slot_of(slot).activate(yes(signature_good), pending, active);
+    store(answer, slot)
 }
 
+#[tactic(auto, unfolding(crate::specs::Calls::manifest_step, crate::specs::Calls::manifest_number, c_encoding::specs::Roles::role_reply, manifest_slot::specs::Calls::read_step))]
 #[unsafe(no_mangle)]
 pub extern "C" fn cerberus_slot_manifest<'a>(
     slot: &[u64; 6],
@@ -101,16 +85,13 @@ pub extern "C" fn cerberus_slot_manifest<'a>(
 ) -> u8
     ensures { outcome result length.new ≡ length_shown (manifest_step role (held_in (c_slot slot.now pending.now active.now))) length.old }
 {
-    let numbers = *slot;
-    let held = slot_of(numbers);
-    let asked = role_of(role);
-    let lent = held.manifest_verdict(asked, pending, active);
-    let verdict = first(lent, role_verdict(role));
-    let number = verdict.number();
-    if 0 < number {
-        return number;
+    let held = slot_of(slot);
+    // The slot's own refusals come before that of a role that there isn't.
+    match held.lent_verdict(pending, active).and(role_of(role)) {
+        Ok(role) => {
+            *length = held.manifest(role, pending, active).len();
+            0
+        }
+        Err(why) => why.number(),
     }
-    let manifest = held.manifest(asked, pending, active);
-    *length = manifest.len();
-    0
 }

@@ -16,28 +16,28 @@ pub overflow_mul-text_len : goal.overflow_mul-text_len
 overflow_mul-text_len c =
     let state : State = log_of c.args.log.now in
     let buffer : List ℕ = c.args.buffer.now in
-    let numbered : number_of c.read_out_verdict-verdict.result ≡ (read_out_step state buffer).number = c.read_out_verdict-verdict.ensures
+    let numbered : number_of c.read_out_verdict.result ≡ (read_out_step state buffer).number = c.read_out_verdict.ensures
     ∙ ap (λ (s : State). (read_out_verdict_step s buffer).number) c.log_of-state.ensures
     ∙ read_out_number state buffer in
-    let accepted : (read_out_step state buffer).number ≡ 0 = says_yes numbered c.in-Accepted.is in
+    let accepted : (read_out_step state buffer).number ≡ 0 = says_yes numbered c.in-Ok.is in
     omega (arith, read_out_few state buffer accepted, ap (λ (s : State). s.count) c.log_of-state.ensures)
 
-pub returns-in-Refused : goal.returns-in-Refused
-returns-in-Refused c =
+pub returns-in-Err : goal.returns-in-Err
+returns-in-Err c =
     let state : State = log_of c.args.log.now in
     let buffer : List ℕ = c.args.buffer.now in
-    let numbered : number_of c.read_out_verdict-verdict.result ≡ (read_out_step state buffer).number = c.read_out_verdict-verdict.ensures
+    let numbered : number_of c.read_out_verdict.result ≡ (read_out_step state buffer).number = c.read_out_verdict.ensures
     ∙ ap (λ (s : State). (read_out_verdict_step s buffer).number) c.log_of-state.ensures
     ∙ read_out_number state buffer in
-    told_refused _ _ numbered c.in-Refused.is c.number.ensures
+    told_refused _ _ numbered c.in-Err.is c.number.ensures
 
-pub returns-in-Accepted : goal.returns-in-Accepted
-returns-in-Accepted c =
+pub returns-in-Ok : goal.returns-in-Ok
+returns-in-Ok c =
     let state : State = log_of c.args.log.now in
     let buffer : List ℕ = c.args.buffer.now in
-    let numbered : number_of c.read_out_verdict-verdict.result ≡ (read_out_step state buffer).number = c.read_out_verdict-verdict.ensures
+    let numbered : number_of c.read_out_verdict.result ≡ (read_out_step state buffer).number = c.read_out_verdict.ensures
     ∙ ap (λ (s : State). (read_out_verdict_step s buffer).number) c.log_of-state.ensures
     ∙ read_out_number state buffer in
-    let accepted : (read_out_step state buffer).number ≡ 0 = says_yes numbered c.in-Accepted.is in
-    told_accepted _ _ numbered c.in-Accepted.is
+    let accepted : (read_out_step state buffer).number ≡ 0 = says_yes numbered c.in-Ok.is in
+    told_accepted _ _ numbered c.in-Ok.is
     (ap (λ (s : State). entry_length * s.count) c.log_of-state.ensures ∙ read_out_length state buffer accepted)

@@ -12,7 +12,7 @@ overflow_mul-offset c =
     let fits : let a = c.args in roots_head_length + c.hash_length-width.result * a.index ≤ length a.element.now = let a = c.args in
     omega (
       arith,
-      hash_within a.hash_type a.element.now a.index (says_yes c.hash_verdict-verdict.ensures c.in-Accepted.is),
+      hash_within a.hash_type a.element.now a.index (says_yes c.hash_verdict.ensures c.in-Ok.is),
       ap (λ (n : ℕ). n * a.index) c.hash_length-width.ensures.length,
     ) in
     omega (arith, fits)
@@ -22,7 +22,7 @@ overflow_add-offset c =
     let fits : let a = c.args in roots_head_length + c.hash_length-width.result * a.index ≤ length a.element.now = let a = c.args in
     omega (
       arith,
-      hash_within a.hash_type a.element.now a.index (says_yes c.hash_verdict-verdict.ensures c.in-Accepted.is),
+      hash_within a.hash_type a.element.now a.index (says_yes c.hash_verdict.ensures c.in-Ok.is),
       ap (λ (n : ℕ). n * a.index) c.hash_length-width.ensures.length,
     ) in
     omega (arith, fits)

@@ -14,5 +14,5 @@ returns c =
     let a = c.args in
     let k : CSlot = c_slot a.slot.now a.pending.now a.active.now in
     let good : Bool = eqb a.signature_good 1 in
-    let is = c.activate-answer.ensures ∙ (λ i. activate_step (c.yes-good.ensures i) (held (c.slot_of.ensures i) k.pending k.active)) in
+    let is = c.activate-answer.ensures ∙ (λ i. activate_step (c.yes.ensures i) (held (c.slot_of.ensures i) k.pending k.active)) in
     slot_stored k (activate_step good) (step_keeps (activate good) (held_in k)) is c.store.ensures
