@@ -1,7 +1,7 @@
 -- Runs of items, over the item's width: of regions, and of hashes of each type.
 use Prim.Native.Nat.{ℕ, zero, suc, ◌≤◌, ◌<◌, ◌+◌, ◌*◌, ◌/◌, ◌%◌}
 use mathlib.Core.Path.{◌≡◌, refl, sym, ap, subst, ◌∙◌}
-use mathlib.Core.Bool.{Bool, true, false, ◌||◌}
+use mathlib.Core.Bool.{Bool, true, false}
 use mathlib.Core.List.{List, []}
 use mathlib.Core.Logic.{◌⊎◌, inl, inr}
 use native.Mathlib.Omega.{arith}
@@ -11,7 +11,7 @@ use lib.Dec.{leb, lit<}
 use lib.ListN.{length, take, drop, length-drop, drop_of_length-le}
 use lib.Seq.{length-take-le, take-nil, drop-nil}
 use Rattle.laws.proofs.Tests.{any_no, no_any, equal_no, no_equal}
-use Rattle.refusal.specs.Rules.{◌when◌else◌, first◌then◌}
+use Rattle.refusal.specs.Rules.{◌when◌else◌}
 use Rattle.refusal.proofs.Laws.{first_yes, when_no, first_accepted, when_accepted}
 use Rattle.element_parts.specs.Parts.{read_number, shown_part, item, item_number, item_count, item_faults, bad_items}
 
@@ -54,11 +54,6 @@ item_cases false n i = tested (leb n i) refl
     tested : (t : Bool) → leb n i ≡ t → (((12 when t else 0) ≡ 0) × (read_number false ≡ 0) × (i < n)) ⊎ (((12 when t else 0) ≡ 12) × (read_number false ≡ 0 → i < n → ⊥))
     tested true e = inr (refl, λ z h. omega (arith, leb-true n i e))
     tested false e = inl (refl, refl, leb-false n i e)
-
--- the tests of the code, which judges the element m and then the count
-pub item_judged : (m t : Bool) → read_number (m || t) ≡ (first read_number m then 12 when t else 0)
-item_judged true t = refl
-item_judged false t = refl
 
 -- of the part of n items that a reader shows, the item is shown by its own number
 pub item_shown : (w n : ℕ) (part : List ℕ) (i number : ℕ) → (number ≡ 0 → length part ≡ w * n)

@@ -1,23 +1,21 @@
 -- Root CAs: what their writer wrote, their reader reads back; what their reader accepts, their writer writes again. Over the hash type.
 use Prim.Native.Nat.{ℕ, ◌≤◌, ◌<◌, ◌+◌, ◌*◌}
 use mathlib.Core.Path.{◌≡◌, refl, sym, ap, ◌∙◌}
-use mathlib.Core.Bool.{Bool, false, not, ◌||◌, or_assoc}
+use mathlib.Core.Bool.{false}
 use mathlib.Core.List.{List, [], ◌∷◌}
 use native.Mathlib.Omega.{arith}
-use native.Mathlib.Nat.{mul-le-mul}
 use borrow.Author.Tests.{ne_eqb, eqb-false, le-ltb, ltb-false}
-use lib.Dec.{eqb, ltb, leb}
 use lib.ListN.{length, get_or, drop, length-drop}
 use Rattle.octets.specs.Octets.{Bytes}
 use Rattle.refusal.specs.Steps.{outcome, reply}
 use Rattle.refusal.proofs.Laws.{accepted_yes}
 use Rattle.hash.specs.Types.{hash_length}
-use Rattle.element_parts.specs.Parts.{read_number, write_number, item_number, item_count}
+use Rattle.element_parts.specs.Parts.{item_count}
 use Rattle.root_cas.specs.RootCas.{roots_head_length, root_count_of, roots_faults, roots_number, roots_fields, roots_hashes, roots_hash_number, roots_field_faults, roots_fields_malformed, roots_bytes, roots_write_step}
 use Rattle.laws.proofs.Tests.{any_no, no_any, equal_no, no_equal}
 use Rattle.element_parts.proofs.Verdicts.{read_yes, read_accepted, write_accepted, write_after, write_done}
 use Rattle.hash.proofs.Types.{length_positive}
-use Rattle.element_parts.proofs.Items.{item_there, item_accepted, item_judged, GoodItems, good_items, items_good, items_of, counted}
+use Rattle.element_parts.proofs.Items.{item_there, item_accepted, GoodItems, good_items, items_good, items_of, counted}
 use Rattle.element_parts.proofs.Heads.{four_and_rest}
 
 -- ---- fields that the writer accepts
@@ -31,13 +29,6 @@ unfolding roots_fields_malformed
 roots_sound t hashes e =
     let p = any_no (roots_field_faults t hashes) e in
     record { known = ltb-false 2 t p.0; items = good_items (hash_length t) hashes p.1.0 }
-
--- the code's number for a buffer of n bytes
-pub roots_number_law : (hash_type : ℕ) (hashes : List ℕ) {u : Bool} (n : ℕ) → u ≡ roots_fields_malformed hash_type hashes
-    → write_number u (roots_head_length + length hashes) n ≡ write_number (roots_fields_malformed hash_type hashes) (length (roots_bytes hash_type hashes)) n
-roots_number_law t hashes n e =
-    let long : roots_head_length + length hashes ≡ length (roots_bytes t hashes) = omega arith in
-    λ i. write_number (e i) (long i) n
 
 -- what an accepted writer was given
 pub record RootsWrites (hash_type : ℕ) (hashes buffer : List ℕ) : Type 0 where
@@ -85,35 +76,6 @@ roots_accepted t b k =
       equal_no k.long,
       (le-ltb 2 t k.known, (ne_eqb (root_count_of b) 0 k.some, (equal_no k.zero1, (equal_no k.zero2, (equal_no k.zero3, tt))))),
     ))
-
--- the tests of the code: the hashes' width, the count n and the bytes b1 to b3
-pub roots_judged : (t : ℕ) (b : List ℕ) {width n b1 b2 b3 : ℕ} → width ≡ hash_length t → n ≡ root_count_of b
-    → b1 ≡ get_or b 1 0 → b2 ≡ get_or b 2 0 → b3 ≡ get_or b 3 0
-    → read_number (
-    not (eqb (length b) (roots_head_length + width * n)) || ltb 2 t || eqb n 0 || not (eqb b1 0) || not (eqb b2 0) || not (eqb b3 0)
-    )
-    ≡ roots_number t b
-unfolding roots_number
-roots_judged t b w en e1 e2 e3 =
-    (λ i. read_number (
-    not (eqb (length b) (roots_head_length + w i * en i))
-    || ltb 2 t
-    || eqb (en i) 0
-    || not (eqb (e1 i) 0)
-    || not (eqb (e2 i) 0)
-    || not (eqb (e3 i) 0)
-    ))
-    ∙ simp or_assoc
-
--- the bytes of a count of one byte of hashes
-pub hashes_small : (w n : ℕ) → w ≤ 64 → n ≤ 255 → w * n ≤ 16320
-hashes_small w n h k = mul-le-mul h k
-
--- a hash by its number: the tests of the code, which judges the element m and then the count
-pub hash_judged : (hash_type : ℕ) (b : List ℕ) (i : ℕ) (m : Bool) → read_number m ≡ roots_number hash_type b
-    → read_number (m || leb (root_count_of b) i) ≡ roots_hash_number hash_type b i
-unfolding roots_hash_number
-hash_judged t b i m e = item_judged m (leb (root_count_of b) i) ∙ ap (λ (n : ℕ). item_number n (root_count_of b) i) e
 
 -- it is there in a sound element that has so many hashes, and in no other
 pub hash_there : (hash_type : ℕ) (b : List ℕ) (i : ℕ) → roots_number hash_type b ≡ 0 → i < root_count_of b → roots_hash_number hash_type b i ≡ 0

@@ -1,11 +1,9 @@
 -- Document 01 and 002, RootCAs, hash type given by the caller: "count, at least 1; three zero bytes; that many hashes".
 use Rattle.std.specs.Prelude.{ℕ, ◌+◌, ◌*◌, Bool, not, List, [], ◌∷◌, ◌++◌, length, get_or, take, drop, eqb}
 use Rattle.laws.specs.Tests.{any}
-use Rattle.refusal.specs.Steps.{Outcome, Reply}
+use Rattle.refusal.specs.Steps.{Outcome}
 use Rattle.hash.specs.Types.{hash_length, bad_hash_type}
 use Rattle.root_cas.specs.declared.RootCas.{RootCas}
-use Rattle.root_cas.specs.declared.RootCasRead.{RootCasRead}
-use Rattle.root_cas.specs.declared.RootCasRead.TheVariants.{Read, Malformed}
 use Rattle.element_parts.specs.Parts.{read_number, write_step, shown_part, item_number, item_count, bad_items}
 
 -- the bytes before the hashes
@@ -16,10 +14,6 @@ abbrev pub root_count_of : List ℕ → ℕ
 root_count_of b = get_or b 0 0
 
 -- ---- the readers
-
-abbrev pub roots_reply : RootCasRead → Reply RootCas
-roots_reply (Read r) = record { number = 0; values = r ∷ [] }
-roots_reply Malformed = record { number = 12; values = [] }
 
 abbrev pub roots_faults : ℕ → List ℕ → List Bool
 roots_faults hash_type b =

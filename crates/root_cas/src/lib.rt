@@ -1,54 +1,77 @@
-// The root CAs of a CFM (002, RootCAs): hashes of the root certificates that are trusted. The type of the hashes is the manifest's, and the caller gives it.
+// The root CAs of a CFM (002, RootCAs): hashes of the root certificates that are trusted. The type of the hashes is the manifest's, and the caller gives it,
+// beside the element in each call: a caller has the two apart, and a struct of both would be made for one call.
 #![tactic(auto)]
 
 ghost use Rattle.std.specs.Prelude.{◌≡◌};
 ghost use Rattle.refusal.specs.Refusals.{number_of};
-ghost use Rattle.refusal.specs.Steps.{outcome, reply};
+ghost use Rattle.refusal.specs.Steps.{outcome, reply, reply_of, reply_by};
 ghost use Rattle.hash.specs.Types.{hash_length};
-ghost use Rattle.element_parts.specs.Parts.{read_number, item};
-ghost use Rattle.root_cas.specs.RootCas.{roots_reply, roots_number, roots_fields, roots_hashes, roots_hash, roots_hash_number, roots_fields_malformed, roots_write_step};
+ghost use Rattle.element_parts.specs.Parts.{item};
+ghost use Rattle.root_cas.specs.RootCas.{roots_number, roots_fields, roots_hashes, roots_hash, roots_hash_number, roots_write_step};
+ghost use Rattle.root_cas.specs.Hashes.{run_of, hash_run};
 
-use hash::hash_length;
-use refusal::{Refusal, Verdict};
+use element_parts::{Run, write_verdict};
+use hash::{HashType, hash_length};
+use refusal::Refusal;
 
 // How many hashes there are; the hashes are a part of the element.
-#[derive(Clone, Copy)]
+#[derive(Clone, Copy, Debug, PartialEq, Eq, Hash)]
 pub struct RootCas {
     pub count: u8,
 }
 
-#[derive(Clone, Copy)]
-pub enum RootCasRead {
-    Read(RootCas),
-    Malformed,
+fn of_type(hash_type: u8, hashes: &[u8]) -> Run<'_>
+    ensures { run_of result ≡ (hash_length hash_type, hashes.now) }
+{
+    Run {
+        bytes: hashes,
+        width: hash_length(hash_type),
+    }
+}
+
+// The hashes of a sound element.
+#[tactic(auto, using(hash::proofs::Types::type_tried, laws::proofs::Lists::take_to_end), unfolding(crate::specs::RootCas::roots_number))]
+fn hash_run(hash_type: u8, element: &[u8]) -> Result<Run<'_>, Refusal>
+    ensures { reply_by run_of result ≡ reply (roots_number hash_type element.now) (hash_run hash_type element.now) }
+{
+    let [count, 0, 0, 0, hashes @ ..] = element else {
+        return Err(Refusal::MalformedElement);
+    };
+    let width = HashType::try_from(hash_type)?.len();
+    if *count == 0 || hashes.len() != width * *count as usize {
+        return Err(Refusal::MalformedElement);
+    }
+    Ok(Run {
+        bytes: hashes,
+        width,
+    })
 }
 
 impl RootCas {
     // The bytes before the hashes.
     pub const HEAD_LEN: usize = 4;
 
-    pub fn read(hash_type: u8, element: &[u8]) -> RootCasRead
-        ensures { roots_reply result ≡ reply (roots_number hash_type element.now) (roots_fields element.now) }
+    pub fn read(hash_type: u8, element: &[u8]) -> Result<RootCas, Refusal>
+        ensures { reply_of result ≡ reply (roots_number hash_type element.now) (roots_fields element.now) }
     {
-        if RootCas::malformed(hash_type, element) {
-            return RootCasRead::Malformed;
-        }
-        RootCasRead::Read(RootCas {
+        hash_run(hash_type, element)?;
+        Ok(RootCas {
             count: octets::byte_at(element, 0),
         })
     }
 
-    // The hashes, as a part of the element; empty where the element is malformed.
+    // The hashes, as a part of the element. A call that answers a part of what was lent gives an empty one where it refuses; `read` gives the number.
     pub fn hashes(hash_type: u8, element: &[u8]) -> &[u8]
         ensures { result.now ≡ roots_hashes hash_type element.now }
     {
-        if RootCas::malformed(hash_type, element) {
-            return &element[..0];
+        match hash_run(hash_type, element) {
+            Ok(run) => run.bytes,
+            Err(_) => &[],
         }
-        octets::behind(element, RootCas::HEAD_LEN)
     }
 
     // Hash i, from 0; empty where the element is malformed, or has no such hash. A walk over all of them asks for the hashes once, and then `nth_hash`.
+    #[tactic(auto, using(crate::proofs::ByNumber::hash_walk))]
     pub fn hash(hash_type: u8, element: &[u8], i: usize) -> &[u8]
         ensures { result.now ≡ roots_hash hash_type element.now i }
     {
@@ -59,54 +82,30 @@ impl RootCas {
     pub fn nth_hash(hash_type: u8, hashes: &[u8], i: usize) -> &[u8]
         ensures { result.now ≡ item (hash_length hash_type) hashes.now i }
     {
-        element_parts::item(hashes, hash_length(hash_type), i)
+        of_type(hash_type, hashes).nth(i)
     }
 
     // The companion of `hash` on the same inputs: 12 where that part is empty.
-    pub fn hash_verdict(hash_type: u8, element: &[u8], i: usize) -> Verdict
+    #[tactic(auto, unfolding(crate::specs::RootCas::roots_hash_number))]
+    pub fn hash_verdict(hash_type: u8, element: &[u8], i: usize) -> Result<(), Refusal>
         ensures { number_of result ≡ roots_hash_number hash_type element.now i }
     {
-        let count = octets::byte_at(element, 0) as usize;
-        if RootCas::malformed(hash_type, element) | (count <= i) {
-            return Verdict::Refused(Refusal::MalformedElement);
+        let roots = RootCas::read(hash_type, element)?;
+        if roots.count as usize <= i {
+            return Err(Refusal::MalformedElement);
         }
-        Verdict::Accepted
+        Ok(())
     }
 
-    pub fn write(hash_type: u8, hashes: &[u8], buffer: &mut [u8]) -> Verdict
+    #[tactic(auto, unfolding(crate::specs::RootCas::roots_fields_malformed))]
+    pub fn write(hash_type: u8, hashes: &[u8], buffer: &mut [u8]) -> Result<(), Refusal>
         ensures { outcome (number_of result) buffer.new ≡ roots_write_step hash_type hashes.now buffer.old }
     {
-        let width = hash_length(hash_type);
-        let malformed = RootCas::fields_malformed(hash_type, hashes);
-        let len = RootCas::HEAD_LEN + hashes.len();
-        let verdict = element_parts::write_verdict(malformed, len, buffer.len());
-        let Verdict::Accepted = verdict else {
-            return verdict;
-        };
-        let count = element_parts::item_count(hashes, width) as u8;
-        let head = [count, 0, 0, 0];
-        octets::put(buffer, 0, &head);
+        // Of a type that isn't defined, hashes have no bytes, and no run of them is good.
+        let run = of_type(hash_type, hashes);
+        write_verdict(run.bad(), RootCas::HEAD_LEN + hashes.len(), buffer.len())?;
+        octets::put(buffer, 0, &[run.count() as u8, 0, 0, 0]);
         octets::put(buffer, RootCas::HEAD_LEN, hashes);
-        verdict
-    }
-
-    fn malformed(hash_type: u8, element: &[u8]) -> bool
-        ensures { read_number result ≡ roots_number hash_type element.now }
-    {
-        let count = octets::byte_at(element, 0);
-        let n = count as usize;
-        let width = hash_length(hash_type);
-        (element.len() != RootCas::HEAD_LEN + width * n)
-            | (2 < hash_type)
-            | (count == 0)
-            | (octets::byte_at(element, 1) != 0)
-            | (octets::byte_at(element, 2) != 0)
-            | (octets::byte_at(element, 3) != 0)
-    }
-
-    fn fields_malformed(hash_type: u8, hashes: &[u8]) -> bool
-        ensures { result ≡ roots_fields_malformed hash_type hashes.now }
-    {
-        (2 < hash_type) | element_parts::bad_items(hashes, hash_length(hash_type))
+        Ok(())
     }
 }
