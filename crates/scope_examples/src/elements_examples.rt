@@ -1,75 +1,63 @@
 // Lengths of signed images: 84 bytes with SHA-512 and two regions, and one byte less or more than 44 with SHA-256 and one region.
-use refusal::Refusal;
-use report::Report;
-use signed_image::{SignedImage, SignedImageRead};
+use refusal::number_of;
+use report::example;
+use signed_image::SignedImage;
+use std::fmt;
+
+// What is said of so many bytes, and the number that they give.
+type Lengths = [(&'static str, usize, u8); 3];
+
+const SHA512_READ: Lengths = [
+    ("SHA-512 and two regions, 84 bytes: read", 84, 0),
+    ("SHA-512 and two regions, 83 bytes: 12", 83, 12),
+    ("SHA-512 and two regions, 85 bytes: 12", 85, 12),
+];
+
+const SHA512_WRITTEN: Lengths = [
+    (
+        "SHA-512 and two regions, a buffer of 84 bytes: written",
+        84,
+        0,
+    ),
+    ("SHA-512 and two regions, a buffer of 83 bytes: 3", 83, 3),
+    ("SHA-512 and two regions, a buffer of 85 bytes: 3", 85, 3),
+];
+
+const SHA256_READ: Lengths = [
+    ("SHA-256 and one region, 44 bytes: read", 44, 0),
+    ("SHA-256 and one region, 43 bytes: 12", 43, 12),
+    ("SHA-256 and one region, 45 bytes: 12", 45, 12),
+];
 
 // The reader's number for an element that is all zero but for its hash type and region count: each region is from 0 to 0.
 fn read_number(hash_type: u8, region_count: u8, element: &mut [u8]) -> u8 {
-    let head = [hash_type, region_count];
-    octets::put(element, 0, &head);
-    let read = SignedImage::read(element);
-    match read {
-        SignedImageRead::Read(_) => 0,
-        SignedImageRead::Malformed => Refusal::MalformedElement.number(),
-    }
+    octets::put(element, 0, &[hash_type, region_count]);
+    number_of(&SignedImage::read(element))
 }
 
 // The writer's number for a hash of SHA-512 and two regions.
 fn write_number(buffer: &mut [u8]) -> u8 {
-    let hash = [0xabu8; 64];
-    let regions = [0u8; 16];
-    let verdict = SignedImage::write(2, true, &hash, &regions, buffer);
-    verdict.number()
+    number_of(&SignedImage::write(2, true, &[0xab; 64], &[0; 16], buffer))
 }
 
-fn sha512_two_regions(report: Report) -> Report {
-    let mut right = [0u8; 84];
-    let mut short = [0u8; 83];
-    let mut long = [0u8; 85];
-    let r1 = report.example(
-        b"SHA-512 and two regions, 84 bytes: read",
-        read_number(2, 2, &mut right) == 0,
-    );
-    let r2 = r1.example(
-        b"SHA-512 and two regions, 83 bytes: 12",
-        read_number(2, 2, &mut short) == 12,
-    );
-    let r3 = r2.example(
-        b"SHA-512 and two regions, 85 bytes: 12",
-        read_number(2, 2, &mut long) == 12,
-    );
-    let r4 = r3.example(
-        b"SHA-512 and two regions, a buffer of 84 bytes: written",
-        write_number(&mut right) == 0,
-    );
-    let r5 = r4.example(
-        b"SHA-512 and two regions, a buffer of 83 bytes: 3",
-        write_number(&mut short) == 3,
-    );
-    r5.example(
-        b"SHA-512 and two regions, a buffer of 85 bytes: 3",
-        write_number(&mut long) == 3,
-    )
+// The number of zeros of each length.
+fn of_lengths<W: fmt::Write, F: Fn(&mut [u8]) -> u8>(
+    out: &mut W,
+    lengths: Lengths,
+    number: F,
+) -> fmt::Result
+    requires { F.IsAlwaysCallable number }
+{
+    for (text, n, expected) in lengths {
+        let mut zeros = [0u8; 85];
+        let given = number(&mut zeros[..n.min(85)]);
+        example(out, text, given == expected)?;
+    }
+    Ok(())
 }
 
-fn sha256_one_region(report: Report) -> Report {
-    let mut right = [0u8; 44];
-    let mut short = [0u8; 43];
-    let mut long = [0u8; 45];
-    let r1 = report.example(
-        b"SHA-256 and one region, 44 bytes: read",
-        read_number(0, 1, &mut right) == 0,
-    );
-    let r2 = r1.example(
-        b"SHA-256 and one region, 43 bytes: 12",
-        read_number(0, 1, &mut short) == 12,
-    );
-    r2.example(
-        b"SHA-256 and one region, 45 bytes: 12",
-        read_number(0, 1, &mut long) == 12,
-    )
-}
-
-pub(crate) fn run(report: Report) -> Report {
-    sha256_one_region(sha512_two_regions(report))
+pub(crate) fn run<W: fmt::Write>(out: &mut W) -> fmt::Result {
+    of_lengths(out, SHA512_READ, |element| read_number(2, 2, element))?;
+    of_lengths(out, SHA512_WRITTEN, write_number)?;
+    of_lengths(out, SHA256_READ, |element| read_number(0, 1, element))
 }

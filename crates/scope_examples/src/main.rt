@@ -6,8 +6,16 @@ mod elements_examples;
 mod slot_examples;
 
 use report::Report;
+use std::fmt;
+
+fn run<W: fmt::Write>(out: &mut W) -> fmt::Result {
+    elements_examples::run(out)?;
+    slot_examples::run(out)
+}
 
 fn main(rt: HostRuntime) {
-    let r1 = elements_examples::run(Report::new(rt));
-    slot_examples::run(r1).end();
+    let mut report = Report::new(rt);
+    // The report has said on standard error what couldn't be written.
+    let _ = run(&mut report);
+    report.end();
 }
