@@ -4,8 +4,8 @@ use refusal::{Refusal, number_of};
 use report::example;
 use std::fmt;
 
-// Document 01's first record, in the layout of document 02, Item 4: PMR0, event type 10, digest all zero. The measurement, SHA-256 of 64 zero bytes, is Python's
-// hashlib's.
+// Document 01's first record, in the layout of document 02, Item 4: PMR0, event type 10, digest all zero. The measurement, SHA-256 of 64 zero bytes, is
+// Python's hashlib's.
 const FIRST: [u8; 89] =
     *b"\xcb\x59\x00\x00\x00\x00\x00\x0a\x00\x00\x00\x00\x00\x00\x00\x01\x00\x00\x00\x0b\x00\
 \x00\x00\x00\x00\x00\x00\x00\x00\x00\x00\x00\x00\x00\x00\x00\x00\x00\x00\x00\x00\x00\x00\x00\x00\x00\x00\x00\x00\x00\x00\x00\x00\
