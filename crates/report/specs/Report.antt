@@ -1,4 +1,5 @@
--- What a report says of itself after each part. That its bytes were written, and what they are, no contract can say here: std's write to standard output promises no more than a count.
+-- What a report says of itself after each part. That its bytes were written, and what they are, no contract can say here: std's write to standard output
+-- promises no more than a count.
 use Rattle.std.specs.Prelude.{ℕ, ◌≡◌, Bool, false, cond, List, Option, Some, codes}
 use Rattle.std.specs.Fmt.{◌++?◌}
 

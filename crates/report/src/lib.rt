@@ -1,4 +1,5 @@
-// A program's report on standard output, written part by part. The first part that can't be written gets a line on standard error, and no part is written after it.
+// A program's report on standard output, written part by part. The first part that can't be written gets a line on standard error, and no part is written
+// after it.
 #![tactic(auto)]
 
 ghost use Rattle.std.specs.Prelude.{◌≡◌, true, ◌&&◌, length, is_ok, IsOk, OnOk};

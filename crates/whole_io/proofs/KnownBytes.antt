@@ -29,9 +29,10 @@ pub record Read (before after : Option (List ℕ)) (buffer : List ℕ) (reading 
   pub end : IfOk reading (λ n. n < length buffer → IsAtEnd after)
   pub failed : OnErr reading ((n : ℕ) × Consumes before after (take n buffer))
 
-module _ (done k : ℕ) (before old new : Option (List ℕ)) (buffer got : List ℕ) (within : done ≤ length buffer) (gave : Consumes before old (take done buffer)) where
-  pub read_again : (left : ℕ) (call : Result ℕ Error) (next : Progress) → ReadsAtMost call got → ReadConsumes old new call got → GoesOn done left call next
-      → Consumes before new (take next.done (put_mid done k buffer got))
+module _ (done k : ℕ) (before old new : Option (List ℕ)) (buffer got : List ℕ)
+    (within : done ≤ length buffer) (gave : Consumes before old (take done buffer)) where
+  pub read_again : (left : ℕ) (call : Result ℕ Error) (next : Progress) → ReadsAtMost call got → ReadConsumes old new call got
+      → GoesOn done left call next → Consumes before new (take next.done (put_mid done k buffer got))
   read_again left (Ok n) next bound bytes on =
       subst (Consumes before new)
       (sym (ap (λ (x : ℕ). take x (put_mid done k buffer got)) on.1 ∙ taken done k n buffer got within bound.0))
@@ -44,7 +45,9 @@ module _ (done k : ℕ) (before old new : Option (List ℕ)) (buffer got : List 
   -- the bytes so far stay at the front
   module _ (some : 0 < length got) (long : done < length (put_mid done k buffer got)) where
     front : (rest : List ℕ) → rest ≡ [] → take done buffer ++ rest ≡ take done (put_mid done k buffer got)
-    front rest e = ap (λ (l : List ℕ). take done buffer ++ l) e ∙ append-nil (take done buffer) ∙ sym (take-put_mid_below done k buffer got done (le_refl done) within)
+    front rest e =
+        ap (λ (l : List ℕ). take done buffer ++ l) e ∙ append-nil (take done buffer)
+        ∙ sym (take-put_mid_below done k buffer got done (le_refl done) within)
 
     pub read_over : (call reading : Result ℕ Error) → ReadsAtMost call got → ReadConsumes old new call got → Ends done call reading
         → Read before new (put_mid done k buffer got) reading
@@ -52,13 +55,21 @@ module _ (done k : ℕ) (before old new : Option (List ℕ)) (buffer got : List 
         subst (Read before new (put_mid done k buffer got)) (sym over.1)
         (record {
           count = omega arith;
-          bytes = subst (Consumes before new) (front (take n got) (ap (λ (x : ℕ). take x got) over.0)) (Consumes-trans before old new (take done buffer) (take n got) gave bytes.0);
+          bytes =
+              subst (Consumes before new) (front (take n got) (ap (λ (x : ℕ). take x got) over.0))
+              (Consumes-trans before old new (take done buffer) (take n got) gave bytes.0);
           end = λ _. bytes.1 over.0 some;
           failed = tt;
         })
     read_over (Err e) reading bound bytes over =
         subst (Read before new (put_mid done k buffer got)) (sym over)
-        (record { count = tt; bytes = tt; end = tt; failed = (done, Consumes-kept before old new _ (subst (Consumes before old) (sym (append-nil (take done buffer)) ∙ front [] refl) gave) bytes) })
+        (record {
+          count =
+              tt;
+          bytes = tt;
+          end = tt;
+          failed = (done, Consumes-kept before old new _ (subst (Consumes before old) (sym (append-nil (take done buffer)) ∙ front [] refl) gave) bytes);
+        })
 
 -- ---- a writer
 
@@ -72,9 +83,11 @@ module _ (done : ℕ) (before old new : Option (List ℕ)) (bytes : List ℕ) (g
       let whole : rest ≡ drop done bytes = take_all (length bytes - done) (drop done bytes) (omega (arith, length-drop done bytes)) in
       ap (λ (l : List ℕ). take done bytes ++ take n l) whole ∙ sym (take-add done n bytes)
 
-  pub write_again : (left : ℕ) (call : Result ℕ Error) (next : Progress) → WriteAppends old new call rest → GoesOn done left call next → Appends before new (take next.done bytes)
+  pub write_again : (left : ℕ) (call : Result ℕ Error) (next : Progress) → WriteAppends old new call rest → GoesOn done left call next
+      → Appends before new (take next.done bytes)
   write_again left (Ok n) next moved on =
-      subst (Appends before new) (taken_of n ∙ ap (λ (x : ℕ). take x bytes) (sym on.1)) (Appends-trans before old new (take done bytes) (take n rest) gave moved)
+      subst (Appends before new) (taken_of n ∙ ap (λ (x : ℕ). take x bytes) (sym on.1))
+      (Appends-trans before old new (take done bytes) (take n rest) gave moved)
   write_again left (Err e) next moved on =
       subst (Appends before new) (sym (ap (λ (x : ℕ). take x bytes) on.0)) (Appends-kept before old new (take done bytes) gave moved)
 

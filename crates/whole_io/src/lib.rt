@@ -78,8 +78,8 @@ pub(crate) fn step_after(
     }
 }
 
-// Reads until the buffer is full or the file ends, and answers how many bytes there are. Where a call failed, at whatever place of the file, so has the reading;
-// bytes may have come before it.
+// Reads until the buffer is full or the file ends, and answers how many bytes there are. Where a call failed, at whatever place of the file, so has the
+// reading; bytes may have come before it.
 pub fn read_whole<R: Read>(from: &mut R, buffer: &mut [u8]) -> io::Result<usize>
     ensures count { IfOk result (λ n. n ≤ length buffer.new) }
     ensures length { length buffer.new ≡ length buffer.old }

@@ -22,6 +22,8 @@ loop-at-preserved g c =
 pub returns-in-Break : goal.returns-in-Break
 returns-in-Break g c =
     let left = length c.loop-at.buffer - c.loop-at.at.done in
-    let r : Read (g.R.Read.remaining c.args.from.now) (g.R.Read.remaining c.read.new.self) (put_mid c.loop-at.at.done left c.loop-at.buffer c.read.new.buf) c.in-Break.reading =
-    read_over _ _ _ _ _ _ _ (omega arith) c.loop-at.invariant.gave (search rules) (search rules) _ _ c.read.ensures.bound c.read.ensures.bytes (ends _ _ _ _ _ c.in-Break.ensures) in
+    let r : Read (g.R.Read.remaining c.args.from.now) (g.R.Read.remaining c.read.new.self) (put_mid c.loop-at.at.done left c.loop-at.buffer c.read.new.buf)
+    c.in-Break.reading =
+    read_over _ _ _ _ _ _ _ (omega arith) c.loop-at.invariant.gave (search rules) (search rules) _ _
+    c.read.ensures.bound c.read.ensures.bytes (ends _ _ _ _ _ c.in-Break.ensures) in
     record { count = r.count; length = search rules; bytes = r.bytes; end = r.end; nothing = search rules; failed = r.failed }
