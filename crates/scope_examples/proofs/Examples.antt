@@ -66,7 +66,8 @@ module _ (hash region : List ℕ) (h : length hash ≡ 32) (r : region_number en
 image_44 : Holds (one_region_image 0 32 44)
 image_44 m hash region buffer h r =
     let long = bytes_44 hash region h r m in
-    let yes : length buffer ≡ 44 → (image_write_step end_is_last 0 (bit_of m) hash region buffer).number ≡ 0 = λ e. write_yes (good hash region h r m) (e ∙ sym long) in
+    let written = image_write_step end_is_last 0 (bit_of m) hash region buffer in
+    let yes : length buffer ≡ 44 → written.number ≡ 0 = λ e. write_yes (good hash region h r m) (e ∙ sym long) in
     record {
       accepted = yes;
       refused = λ e. write_wrong_buffer (good hash region h r m) (λ f. e (f ∙ long));
