@@ -3,8 +3,9 @@
 
 pub mod counting;
 
-ghost use Rattle.std.specs.Prelude.{◌≡◌, OnOk};
+ghost use Rattle.std.specs.Prelude.{◌≡◌, true, OnOk, is_ok};
 ghost use Rattle.std.specs.Fmt.{WritesText};
+ghost use Rattle.report.specs.Report.{StaysFailed};
 ghost use Rattle.vector_report.specs.Counts.{one_more, differing};
 ghost use Rattle.vector_report.specs.Lines.{vector_line, last_line};
 
@@ -16,23 +17,44 @@ use std::fmt;
 pub struct Tally<W> {
     pub run: u64,
     pub differ: u64,
+    // Whether every line so far was written whole: none is written after one that wasn't.
+    pub ok: bool,
     pub out: W,
+}
+
+// A vector's line: whether the computed bytes are the expected ones, or which others they are.
+#[tactic(auto, unfolding(crate::specs::Lines::vector_line))]
+fn write_line<W: fmt::Write, D: fmt::Display + Drop>(
+    out: &mut W,
+    vector: D,
+    computed: &[u8],
+    expected: &[u8],
+) -> fmt::Result
+    ensures { OnOk result (WritesText W.write_str_gives out.old (vector_line (D.output vector) computed.now expected.now) out.new) }
+{
+    if hex_text::same(computed, expected) {
+        writeln!(out, "{vector}: ok")
+    } else {
+        writeln!(out, "{vector}: {}", Hex(computed))
+    }
 }
 
 impl<W: fmt::Write> Tally<W> {
     pub fn new(out: W) -> Self
         ensures counts { (result.run ≡ 0) × (result.differ ≡ 0) }
+        ensures ok { result.ok ≡ true }
         ensures out { result.out ≡ out }
     {
         Tally {
             run: 0,
             differ: 0,
+            ok: true,
             out,
         }
     }
 
-    // A vector's line: whether the computed bytes are the expected ones, or which others they are.
-    #[tactic(auto, unfolding(crate::specs::Counts::differing, crate::specs::Lines::vector_line))]
+    // Counts a vector, and writes its line.
+    #[tactic(auto, unfolding(crate::specs::Counts::differing))]
     pub fn compare<D: fmt::Display + Drop>(
         &mut self,
         vector: D,
@@ -41,23 +63,36 @@ impl<W: fmt::Write> Tally<W> {
     ) -> fmt::Result
         ensures run { self.new.run ≡ one_more self.old.run }
         ensures differ { self.new.differ ≡ differing computed.now expected.now self.old.differ }
+        ensures failed { StaysFailed self.old.ok self.new.ok }
+        ensures ok { self.new.ok ≡ is_ok result }
         ensures written { OnOk result (WritesText W.write_str_gives self.old.out
             (vector_line (D.output vector) computed.now expected.now) self.new.out) }
     {
         self.run = self.run.wrapping_add(1);
-        if hex_text::same(computed, expected) {
-            return writeln!(self.out, "{vector}: ok");
+        if !hex_text::same(computed, expected) {
+            self.differ = self.differ.wrapping_add(1);
         }
-        self.differ = self.differ.wrapping_add(1);
-        writeln!(self.out, "{vector}: {}", Hex(computed))
+        if !self.ok {
+            return Err(fmt::Error);
+        }
+        let written = write_line(&mut self.out, vector, computed, expected);
+        self.ok = written.is_ok();
+        written
     }
 
     // The last line.
     pub fn summary(&mut self) -> fmt::Result
         ensures counts { (self.new.run ≡ self.old.run) × (self.new.differ ≡ self.old.differ) }
+        ensures failed { StaysFailed self.old.ok self.new.ok }
+        ensures ok { self.new.ok ≡ is_ok result }
         ensures written { OnOk result (WritesText W.write_str_gives self.old.out
             (last_line self.old.run self.old.differ) self.new.out) }
     {
-        writeln!(self.out, "{} vectors, {} differ", self.run, self.differ)
+        if !self.ok {
+            return Err(fmt::Error);
+        }
+        let last = writeln!(self.out, "{} vectors, {} differ", self.run, self.differ);
+        self.ok = last.is_ok();
+        last
     }
 }
