@@ -10,6 +10,7 @@ use Rattle.fips180.specs.Family.{Family, block_bytes, length_bytes}
 use Rattle.fips180.specs.Padding.{big_endian, zero_count, pad, block}
 use Rattle.fips180.specs.Hash.{compress, hash_value, hash, word_bytes_of, digest}
 use Rattle.fips180.specs.Continued.{pad_after, hash_after}
+use Rattle.fips180.proofs.Bytes.{length_words}
 use Rattle.fips180.proofs.Blocks.{block_positive}
 
 module _ (f : Family) where
@@ -105,3 +106,7 @@ module _ (f : Family) where
         → take n (word_bytes_of f 8 (hash_after f (compress f b h) 1 m)) ≡ digest f h n (b ++ m)
     unfolding digest
     digest_block h b n m e = ap (λ (v : List ℕ). take n (word_bytes_of f 8 v)) (sym (hash_block h b m e))
+
+  -- all of its bytes are the digest
+  pub digest_all : (v : List ℕ) (n : ℕ) → n ≡ 8 * f.word_bytes → word_bytes_of f 8 v ≡ take n (word_bytes_of f 8 v)
+  digest_all v n e = let l = length_words f 8 v in sym (take_all n (word_bytes_of f 8 v) (omega arith))

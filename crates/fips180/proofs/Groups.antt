@@ -1,6 +1,6 @@
 -- Groups of sixteen rounds over a circular queue of sixteen words are the rounds over the whole schedule, for any family and any number of
 -- groups.
-use Prim.Native.Nat.{ℕ, zero, suc, ◌+◌, ◌-◌, ◌*◌, ◌%◌, ◌<◌, ◌≤◌}
+use Prim.Native.Nat.{ℕ, zero, suc, ◌+◌, ◌-◌, ◌*◌, ◌/◌, ◌%◌, ◌<◌, ◌≤◌}
 use mathlib.Core.Path.{◌≡◌, refl, sym, ap, subst, ◌∙◌}
 use mathlib.Core.Logic.{⊎_elim}
 use mathlib.Core.List.{List, [], ◌∷◌, ◌++◌}
@@ -218,21 +218,46 @@ module _ (f : Family) where
       store_all (λ n. words_of f n b) (filled (λ i _. word_at f b i) 16 q) 16 16 (length_filled (λ i _. word_at f b i) 16 q ∙ h) refl
       (block_words b q 16 (omega arith))
 
-  -- ---- the loop over the groups, where g of them are done: the words of the last, and the working variables after it
+  -- ---- the loop over the groups, where t is the first round of the last one: its words, and the working variables after it
 
-  pub record Group (b s : List ℕ) (g : ℕ) (w v : List ℕ) : Type 0 where
+  pub record Group (b s : List ℕ) (t : ℕ) (w v : List ℕ) : Type 0 where
+    pub words : w ≡ group_words f b (t / 16)
+    pub state : v ≡ after_groups f b s (suc (t / 16))
+
+  pub group_first : {w v : List ℕ} (b s : List ℕ) → w ≡ words_of f 16 b → v ≡ rounds_from f 0 w s 16 → Group b s 0 w v
+  unfolding group_words after_groups
+  group_first b s p e = record { words = p; state = e ∙ ap (λ (q : List ℕ). rounds_from f 0 q s 16) p }
+
+  pub group_next : {w v x y : List ℕ} (b s : List ℕ) (t : ℕ) → t % 16 ≡ 0 → Group b s t w v → x ≡ advanced f 16 w → y ≡ rounds_from f (t + 16) x v 16
+      → Group b s (t + 16) x y
+  unfolding group_words after_groups
+  group_next b s t z g d e =
+      let n : suc (t / 16) ≡ (t + 16) / 16 = omega arith in
+      let m : t + 16 ≡ 16 * suc (t / 16) = omega arith in
+      let q = d ∙ ap (advanced f 16) g.words in
+      record {
+        words = q ∙ ap (group_words f b) n;
+        state = e ∙ (λ i. rounds_from f (m i) (q i) (g.state i) 16) ∙ ap (λ (k : ℕ). after_groups f b s (suc k)) n;
+      }
+
+  pub group_last : {w v : List ℕ} (b s : List ℕ) (t : ℕ) → t % 16 ≡ 0 → f.rounds ≡ t + 16 → Group b s t w v → sums f 8 v s ≡ compress f b s
+  group_last b s t z e g = ap (λ (x : List ℕ). sums f 8 x s) g.state ∙ compress_groups b s (suc (t / 16)) (omega arith)
+
+  -- ---- the same, where g groups are done: the words of the last, and the working variables after it
+
+  pub record Grouped (b s : List ℕ) (g : ℕ) (w v : List ℕ) : Type 0 where
     pub some : 0 < g
     pub words : w ≡ group_words f b (g - 1)
     pub state : v ≡ after_groups f b s g
 
-  pub group_first : {w v : List ℕ} (b s : List ℕ) → w ≡ words_of f 16 b → v ≡ rounds_from f 0 w s 16 → Group b s 1 w v
+  pub grouped_first : {w v : List ℕ} (b s : List ℕ) → w ≡ words_of f 16 b → v ≡ rounds_from f 0 w s 16 → Grouped b s 1 w v
   unfolding group_words after_groups
-  group_first b s p e = record { some = omega arith; words = p; state = e ∙ ap (λ (q : List ℕ). rounds_from f 0 q s 16) p }
+  grouped_first b s p e = record { some = omega arith; words = p; state = e ∙ ap (λ (q : List ℕ). rounds_from f 0 q s 16) p }
 
-  pub group_next : {w v x y : List ℕ} (b s : List ℕ) (g : ℕ) → Group b s g w v → x ≡ advanced f 16 w → y ≡ rounds_from f (16 * g) x v 16
-      → Group b s (g + 1) x y
+  pub grouped_next : {w v x y : List ℕ} (b s : List ℕ) (g : ℕ) → Grouped b s g w v → x ≡ advanced f 16 w → y ≡ rounds_from f (16 * g) x v 16
+      → Grouped b s (g + 1) x y
   unfolding group_words after_groups
-  group_next b s g p d e =
+  grouped_next b s g p d e =
       let h = p.some in
       let n : suc (g - 1) ≡ g = omega arith in
       let m : g ≡ g + 1 - 1 = omega arith in
@@ -243,5 +268,5 @@ module _ (f : Family) where
         state = e ∙ (λ i. rounds_from f (16 * g) (q i) (p.state i) 16) ∙ ap (after_groups f b s) (sym (add-one g));
       }
 
-  pub group_last : {w v : List ℕ} (b s : List ℕ) (g : ℕ) → f.rounds ≡ 16 * g → Group b s g w v → sums f 8 v s ≡ compress f b s
-  group_last b s g e p = ap (λ (x : List ℕ). sums f 8 x s) p.state ∙ compress_groups b s g e
+  pub grouped_last : {w v : List ℕ} (b s : List ℕ) (g : ℕ) → f.rounds ≡ 16 * g → Grouped b s g w v → sums f 8 v s ≡ compress f b s
+  grouped_last b s g e p = ap (λ (x : List ℕ). sums f 8 x s) p.state ∙ compress_groups b s g e

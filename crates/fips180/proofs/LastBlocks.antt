@@ -7,9 +7,9 @@ use native.Mathlib.Nat.{eq-or-lt_of_le, mod-lt, div-add-mod', suc-mul, add-zero}
 use native.Mathlib.Omega.{arith}
 use lib.Arith.{digits_div}
 use lib.ListN.{length, take, drop, get_or, set, replicate, length-append, length-drop, length-replicate, get_or-append}
-use lib.Seq.{length-take-le, get_or-take, get_or-drop, get_or_at, get_or-append-add, append_snoc, set_at, ext_get_or}
-use Rattle.octets.specs.Octets.{zeros}
-use Rattle.octets.proofs.Buffers.{length_padded, zeros_byte}
+use lib.Seq.{length-take-le, get_or-take, get_or-drop, get_or_at, get_or-append-add, append_snoc, set_at, take_all, ext_get_or}
+use Rattle.octets.specs.Octets.{zeros, pasted}
+use Rattle.octets.proofs.Buffers.{length_padded, pasted_zeros, zeros_byte}
 use Rattle.fips180.specs.Family.{Family, block_bytes, length_bytes}
 use Rattle.fips180.specs.Padding.{big_endian, block}
 use Rattle.fips180.specs.Hash.{compress, hash_value}
@@ -18,7 +18,7 @@ use Rattle.fips180.specs.LastBlocks.{tail_block, with_length}
 use Rattle.laws.proofs.Lists.{before_or_not}
 use Rattle.fips180.proofs.Bytes.{length_big}
 use Rattle.fips180.proofs.Padding.{length_pad, pad_message, pad_one, pad_zero, pad_length, pad_block}
-use Rattle.fips180.proofs.Blocks.{block_positive, zero_count_fills, length_block}
+use Rattle.fips180.proofs.Blocks.{block_positive, zero_count_fills, length_block, hash_value_more}
 
 module _ (f : Family) (positive : 0 < f.word_bytes) where
   -- two words of sixteen
@@ -80,9 +80,9 @@ module _ (f : Family) (positive : 0 < f.word_bytes) where
         ∙ zeros_byte (block_bytes f - length (tail ++ (0x80 ∷ []))) (x - over - 1)
 
     -- as code puts it together: what is left of m behind its whole blocks, with zeros up to the end of a block, and then the byte 0x80
-    pub tail_put : {b r : List ℕ} → r ≡ drop (length m - over) m → b ≡ r ++ zeros (block_bytes f - length r) → set b (length r) 0x80 ≡ tail_block f m
+    pub tail_left : {b r : List ℕ} → r ≡ drop (length m - over) m → b ≡ r ++ zeros (block_bytes f - length r) → set b (length r) 0x80 ≡ tail_block f m
     unfolding zeros
-    tail_put {r = r} p e =
+    tail_left {r = r} p e =
         let d = div-add-mod' (length m) (block_bytes f) in
         let s : length m - over ≡ start = omega arith in
         let t = length_tail in
@@ -94,6 +94,29 @@ module _ (f : Family) (positive : 0 < f.word_bytes) where
         ∙ ap (λ (n : ℕ). set (tail ++ zeros (suc (block_bytes f - length (tail ++ (0x80 ∷ []))))) n 0x80) t
         ∙ set_at tail 0 rest 0x80 over t
         ∙ sym tail_is
+
+    -- the same, where the tail is read as c bytes from its start on and put to the front of a block of zeros
+    pub tail_put : {b : List ℕ} (c : ℕ) → over ≤ c → b ≡ pasted (replicate (block_bytes f) 0) 0 (take c tail) → set b over 0x80 ≡ tail_block f m
+    unfolding zeros
+    tail_put {b = b} c o e =
+        let d = div-add-mod' (length m) (block_bytes f) in
+        let t = length_tail in
+        let h = over_lt in
+        let s : start ≡ length m - over = omega arith in
+        let put = ap (pasted (zeros (block_bytes f)) 0) (take_all c tail (omega arith)) ∙ pasted_zeros (block_bytes f) tail (omega arith) in
+        ap (λ (n : ℕ). set b n 0x80) (sym t) ∙ tail_left (ap (λ (n : ℕ). drop n m) s) (e ∙ put)
+
+    -- ---- the whole blocks, which lie in the message itself: code reads block i as c bytes from i * block_bytes on
+
+    pub whole_none : (h : List ℕ) → h ≡ hash_value f h m 0
+    unfolding hash_value
+    whole_none h = refl
+
+    pub whole_more : {s t : List ℕ} (h : List ℕ) (i c : ℕ) → c ≡ block_bytes f → s ≡ hash_value f h m i
+        → t ≡ compress f (take c (drop (i * block_bytes f) m)) s → t ≡ hash_value f h m (i + 1)
+    unfolding block
+    whole_more {s = s} h i c e p q =
+        hash_value_more f h m (take c (drop (i * block_bytes f) m)) s _ i p (ap (λ (x : ℕ). take x (drop (i * block_bytes f) m)) e) q
 
     -- ---- the last blocks
 

@@ -1,15 +1,26 @@
 -- The message schedule, for any family: a block's words, how long it is, and that a word once in it stays.
-use Prim.Native.Nat.{ℕ, zero, suc, ◌+◌, ◌-◌, ◌<◌, ◌≤◌}
+use Prim.Native.Nat.{ℕ, zero, suc, ◌+◌, ◌-◌, ◌*◌, ◌<◌, ◌≤◌}
 use mathlib.Core.Path.{◌≡◌, refl, sym, ap, ◌∙◌}
 use mathlib.Core.List.{List, [], ◌∷◌}
+use native.Mathlib.Nat.{add-zero, zero-add}
 use native.Mathlib.Omega.{arith}
-use lib.ListN.{length, get_or, length-append, get_or-append}
+use lib.ListN.{length, get_or, take, drop, length-append, get_or-append}
 use lib.Seq.{get_or_at}
 use Rattle.fips180.specs.Family.{Family, small_sigma0, small_sigma1}
-use Rattle.fips180.specs.Padding.{word_at, words_of}
+use Rattle.fips180.specs.Padding.{from_big, word_at, words_of}
 use Rattle.fips180.specs.Hash.{plus, next_word, with_next, schedule}
+use Rattle.laws.proofs.Lists.{run, take_run}
 
 module _ (f : Family) where
+  -- word j of a block, where v is its first byte and vs are the k others, as code reads them
+  pub word_read : (b : List ℕ) (j v : ℕ) (vs : List ℕ) (k : ℕ) → f.word_bytes ≡ suc k → j * f.word_bytes + f.word_bytes ≤ length b
+      → v ≡ get_or b (j * f.word_bytes) 0 → vs ≡ run b (j * f.word_bytes) 1 k → from_big v vs ≡ word_at f b j
+  unfolding word_at from_big
+  word_read b j v vs k e h p q =
+      let at : ℕ = j * f.word_bytes in
+      (λ i. from_big ((p ∙ ap (λ (n : ℕ). get_or b n 0) (sym (add-zero at)) ∙ sym (zero-add (get_or b (at + 0) 0))) i) (q i))
+      ∙ ap (from_big 0) (sym (take_run b at (suc k) (omega arith)) ∙ ap (λ (n : ℕ). take n (drop at b)) (sym e))
+
   pub length_words_of : (k : ℕ) (b : List ℕ) → length (words_of f k b) ≡ k
   unfolding words_of
   length_words_of zero b = refl

@@ -7,7 +7,7 @@ use native.Mathlib.Numerals.{add-one}
 use native.Mathlib.Omega.{arith}
 use lib.ListN.{length, take, drop, get_or}
 use lib.Pow.{shr-shr, field, mod-mod-pow}
-use lib.Seq.{drop-length}
+use lib.Seq.{take_all, drop-length}
 use Rattle.octets.specs.Octets.{pasted}
 use Rattle.octets.proofs.Buffers.{pasted_fits, length_pasted, take_pasted}
 use Rattle.fips180.specs.Family.{Family, block_bytes, length_bytes}
@@ -59,11 +59,11 @@ module _ (f : Family) where
       ap (λ (x : List ℕ). x ++ word lo) low ∙ big_words k (8 * n / 2 ^ (8 * k)) lo (8 * n) refl h
 
   -- at the end of a block b, where a word is k bytes
-  pub length_stored : {x y c d : List ℕ} (b : List ℕ) (n hi lo k : ℕ) → f.word_bytes ≡ k → length b ≡ block_bytes f
+  pub length_put : {x y c d : List ℕ} (b : List ℕ) (n hi lo k : ℕ) → f.word_bytes ≡ k → length b ≡ block_bytes f
       → word_bytes_of f 2 (hi ∷ lo ∷ []) ≡ big_endian (length_bytes f) (8 * n) → x ≡ big_endian k hi → y ≡ big_endian k lo → c ≡ pasted b (14 * k) x
       → d ≡ pasted c (15 * k) y → d ≡ with_length f n b
   unfolding with_length word_bytes_of block_bytes length_bytes
-  length_stored {c = c} b n hi lo k size l two v w r o =
+  length_put {c = c} b n hi lo k size l two v w r o =
       let at : ℕ = 14 * k in
       let next : 15 * k ≡ at + k = omega arith in
       let e : at ≡ 16 * f.word_bytes - 2 * f.word_bytes = omega arith in
@@ -84,7 +84,41 @@ module _ (f : Family) where
       ∙ (λ y. take (e y) b ++ (big_endian (sym size y) hi ++ big_endian (sym size y) lo))
       ∙ ap (λ (z : List ℕ). take (16 * f.word_bytes - 2 * f.word_bytes) b ++ z) two
 
+  pub length_stored : {x y c d : List ℕ} (b : List ℕ) (n hi lo at : ℕ) → length b ≡ block_bytes f → at ≡ block_bytes f - length_bytes f
+      → hi ≡ 8 * n / 2 ^ (8 * f.word_bytes) → lo ≡ 8 * n % 2 ^ (8 * f.word_bytes) → x ≡ word hi → y ≡ word lo → c ≡ pasted b at x
+      → d ≡ pasted c (at + f.word_bytes) y → d ≡ with_length f n b
+  unfolding word_bytes_of block_bytes length_bytes
+  length_stored {x = x} {y = y} {c = c} b n hi lo at l e h g v w r o =
+      let p : at ≡ 14 * f.word_bytes = omega arith in
+      let q : at + f.word_bytes ≡ 15 * f.word_bytes = omega arith in
+      length_put b n hi lo f.word_bytes refl l (big_words f.word_bytes hi lo (8 * n) h g) v w (r ∙ ap (λ (z : ℕ). pasted b z x) p)
+      (o ∙ ap (λ (z : ℕ). pasted c z y) q)
+
   -- ---- the words of a digest
+  pub words_more : {next : List ℕ} (s out : List ℕ) (i : ℕ) → i * f.word_bytes + f.word_bytes ≤ length out → take (i * f.word_bytes) out ≡ word_bytes_of f i s
+      → next ≡ pasted out (i * f.word_bytes) (word (get_or s i 0)) → take ((i + 1) * f.word_bytes) next ≡ word_bytes_of f (i + 1) s
+  unfolding word_bytes_of
+  words_more {next = next} s out i h e p =
+      let l = length_big f.word_bytes (get_or s i 0) in
+      let n : (i + 1) * f.word_bytes ≡ i * f.word_bytes + length (word (get_or s i 0)) =
+      ap (λ (x : ℕ). x * f.word_bytes) (add-one i) ∙ suc-mul i f.word_bytes ∙ ap (λ (x : ℕ). i * f.word_bytes + x) (sym l) in
+      ap (λ (x : ℕ). take x next) n
+      ∙ ap (take (i * f.word_bytes + length (word (get_or s i 0)))) p
+      ∙ take_pasted out (i * f.word_bytes) (word (get_or s i 0)) (omega arith)
+      ∙ ap (λ (x : List ℕ). x ++ word (get_or s i 0)) e
+      ∙ ap (λ (x : ℕ). word_bytes_of f x s) (sym (add-one i))
+
+  pub words_length : {next : List ℕ} (s out : List ℕ) (i : ℕ) → i * f.word_bytes + f.word_bytes ≤ length out
+      → next ≡ pasted out (i * f.word_bytes) (word (get_or s i 0)) → length next ≡ length out
+  words_length s out i h p =
+      let l = length_big f.word_bytes (get_or s i 0) in
+      ap length p ∙ length_pasted out (i * f.word_bytes) (word (get_or s i 0)) (omega arith)
+
+  pub words_all : (s out : List ℕ) (i : ℕ) → i ≡ 8 → length out ≡ 8 * f.word_bytes → take (i * f.word_bytes) out ≡ word_bytes_of f i s → out ≡ word_bytes_of f 8 s
+  words_all s out i h l e =
+      let n = ap (λ (x : ℕ). x * f.word_bytes) h in
+      sym (take_all (i * f.word_bytes) out (omega arith)) ∙ e ∙ ap (λ (x : ℕ). word_bytes_of f x s) h
+
   -- the first i words, of k bytes each, in the buffer out
   pub record Written (s : List ℕ) (k i : ℕ) (out : List ℕ) : Type 0 where
     pub within : i ≤ 8
@@ -99,22 +133,18 @@ module _ (f : Family) where
 
   pub written_more : {next x : List ℕ} (s out : List ℕ) (k i : ℕ) → f.word_bytes ≡ k → i < 8 → Written s k i out → x ≡ big_endian k (get_or s i 0)
       → next ≡ pasted out (i * k) x → Written s k (i + 1) next
-  unfolding word_bytes_of
   written_more {next = next} {x = x} s out k i size h p e g =
       let room = p.room in
       let m = mul-le-mul_right k h in
       let t = suc-mul i k in
+      let at : i * f.word_bytes ≡ i * k = ap (λ (y : ℕ). i * y) size in
       let l : length x ≡ k = ap length e ∙ length_big k (get_or s i 0) in
-      let fits : i * k + length x ≤ length out = omega arith in
-      let n : (i + 1) * k ≡ i * k + length x = ap (λ (y : ℕ). y * k) (add-one i) ∙ omega arith in
-      let long = ap length g ∙ length_pasted out (i * k) x fits in
+      let long = ap length g ∙ length_pasted out (i * k) x (omega arith) in
+      let bytes : x ≡ word (get_or s i 0) = e ∙ ap (λ (y : ℕ). big_endian y (get_or s i 0)) (sym size) in
       record {
         within = omega arith;
         room = omega arith;
         words =
-            ap (λ (y : ℕ). take y next) n
-            ∙ ap (take (i * k + length x)) g
-            ∙ take_pasted out (i * k) x fits
-            ∙ (λ j. p.words j ++ (e ∙ ap (λ (z : ℕ). big_endian z (get_or s i 0)) (sym size)) j)
-            ∙ ap (λ (y : ℕ). word_bytes_of f y s) (sym (add-one i));
+            ap (λ (y : ℕ). take ((i + 1) * y) next) (sym size)
+            ∙ words_more s out i (omega arith) (ap (λ (y : ℕ). take y out) at ∙ p.words) (g ∙ (λ j. pasted out (sym at j) (bytes j)));
       }

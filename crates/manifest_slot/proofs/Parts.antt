@@ -1,14 +1,19 @@
 -- Where buffers and state are accepted: the parts of the buffers that hold manifests are there, and opened buffers are zeros.
-use Rattle.std.proofs.Common.{◌≡◌, ℕ, List, length, replicate, take, sym, ap, ◌∙◌, length-take-le}
-use Rattle.octets.specs.Octets.{zeros}
+use Rattle.std.proofs.Common.{◌≡◌, ℕ, false, List, length, replicate, take, sym, ap, ◌∙◌, length-take-le}
+use Rattle.std.specs.Prelude.{Result, Ok}
+use Rattle.octets.specs.Octets.{zeros, pasted}
+use Rattle.refusal.specs.declared.Refusal.{Refusal}
+use Rattle.refusal.specs.Refusals.{number_of}
 use Rattle.refusal.specs.Steps.{outcome}
-use Rattle.refusal.proofs.Steps.{decided_yes}
-use Rattle.slot_state.specs.State.{buffer_length, received_of}
-use Rattle.slot_state.specs.Rules.{open_number}
-use Rattle.slot_state.proofs.Accepted.{open_accepted}
+use Rattle.refusal.proofs.Laws.{says_yes}
+use Rattle.refusal.proofs.Steps.{decided_yes, decided_accepted}
+use Rattle.slot_state.specs.declared.Transfer.{Transfer}
+use Rattle.slot_state.specs.State.{buffer_length, received_of, too_long}
+use Rattle.slot_state.specs.Rules.{open_number, update_rule}
+use Rattle.slot_state.proofs.Accepted.{open_accepted, payload_accepted}
 use Rattle.manifest_slot.specs.declared.Slot.{Slot}
-use Rattle.manifest_slot.specs.Slot.{fresh, held}
-use Rattle.manifest_slot.specs.Calls.{open_step, lent_number}
+use Rattle.manifest_slot.specs.Slot.{fresh, advanced, transferring, Held, held}
+use Rattle.manifest_slot.specs.Calls.{open_step, lent_number, update_lent}
 use Rattle.manifest_slot.proofs.Accepted.{lent_fits}
 
 module _ (s : Slot) (pending active : List ℕ) (accepted : 0 ≡ lent_number (held s pending active)) where
@@ -28,3 +33,16 @@ open_done magic before pending active accepted f p a =
     let zeroed = λ (n : ℕ). replicate n 0 in
     (λ i. outcome 0 (held (f i) ((p ∙ ap zeroed lengths.0) i) ((a ∙ ap zeroed lengths.1) i)))
     ∙ decided_yes (held before pending active) (held (fresh magic) (zeros buffer_length) (zeros buffer_length)) (sym accepted)
+
+-- an update's end where its own rules accept: the transfer advances, and the payload stands behind the bytes received
+pub update_done : {X : Type 0} (payload : List ℕ) (h : Held) {own : Result X Refusal} {x : X} {received : ℕ} {t : Transfer} {next : Slot} {pending : List ℕ}
+    → number_of own ≡ update_rule h.slot.transfer (length payload) → own ≡ Ok x
+    → received ≡ received_of h.slot.transfer → (too_long h.slot.transfer (length payload) ≡ false → t ≡ advanced h.slot.transfer (length payload))
+    → next ≡ transferring h.slot t → pending ≡ pasted h.pending received payload
+    → outcome (number_of own) (held next pending h.active) ≡ update_lent payload h
+unfolding update_lent
+update_done payload h e f r t s p =
+    let few = (payload_accepted h.slot.transfer (length payload) (says_yes e f)).0 in
+    let next = s ∙ ap (transferring h.slot) (t few) in
+    let pending = p ∙ ap (λ (n : ℕ). pasted h.pending n payload) r in
+    decided_accepted _ _ e f (λ i. held (next i) (pending i) h.active)

@@ -45,13 +45,15 @@ impl TryFrom<u8> for Operation {
     ghost try_from_gives = { λ number answer. reply_by operation_number answer ≡ reply (read_number (bad_operation number)) number };
 
     fn try_from(number: u8) -> Result<Operation, Refusal> {
-        match number {
-            0 => Ok(Operation::Nothing),
-            1 => Ok(Operation::Restore),
-            2 => Ok(Operation::Erase),
-            3 => Ok(Operation::Reserved),
-            _ => Err(Refusal::MalformedElement),
+        if number >> 2 != 0 {
+            return Err(Refusal::MalformedElement);
         }
+        Ok(match number & 3 {
+            0 => Operation::Nothing,
+            1 => Operation::Restore,
+            2 => Operation::Erase,
+            _ => Operation::Reserved,
+        })
     }
 }
 

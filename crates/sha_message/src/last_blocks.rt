@@ -49,6 +49,6 @@ pub(crate) fn hash_value<W: Word<B>, const B: usize>(s: &mut [W; 8], n: usize, m
     ensures { (k : ℕ) → n ≡ k * (16 * B) + length m.now → map W.number s.new ≡ hash_after W.family (map W.number s.old) k m.now }
 {
     whole_blocks(s, m);
-    let mut block = [0u8; 128];
-    last_blocks(s, n, m, &mut block[..16 * B]);
+    let mut block = [[0u8; B]; 16];
+    last_blocks(s, n, m, block.as_flattened_mut());
 }
