@@ -27,7 +27,8 @@ fn transfer_of(n: &[u64; 6]) -> Transfer
     }
 }
 
-// The slot that the integers stand for; one outside the rules, which every call refuses, where they stand for none.
+// The slot that the integers stand for; one outside the rules, which every call refuses, where they stand for none. No `Option`:
+// a call judges its buffers before its slot.
 #[tactic(auto, unfolding(crate::specs::Slots::slot_of))]
 pub fn slot_of(n: &[u64; 6]) -> Slot
     ensures { result ≡ slot_of n.now }

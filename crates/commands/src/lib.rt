@@ -12,7 +12,8 @@ use message_header::{HEADER_LEN, command_of};
 use refusal::Refusal;
 use requests::{Performed, REPLY_LEN, perform};
 
-// A command's verdict, with how many bytes of response it wrote, and the next slot: the one handed in where the command refuses.
+// A command's verdict, with how many bytes of response it wrote, and the next slot: the one handed in where the command refuses. A struct, as
+// document 01 has it of the slot's calls.
 #[derive(Clone, Copy, Debug, PartialEq, Eq, Hash)]
 pub struct Answer {
     pub verdict: Result<usize, Refusal>,

@@ -41,6 +41,7 @@ fn compare<W: Write>(rt: &HostRuntime, out: &mut W, left: &[u8], right: &[u8]) -
 
 // Both files are read, so that each that can't be read whole has its line on standard error; what was read of it is never judged.
 fn compare_named<W: Write>(rt: &HostRuntime, out: &mut W) -> fmt::Result {
+    // Of fixed size, as no program here has a heap.
     let mut left = [0u8; READ_LEN];
     let mut right = [0u8; READ_LEN];
     let read_left = file_arguments::read_argument(rt, 1, ARGUMENT, &mut left);

@@ -45,6 +45,7 @@ pub fn read_argument(rt: &HostRuntime, i: usize, label: &[u8], text: &mut [u8]) 
     ensures count { IfOk result (λ n. n ≤ length text.new) }
     ensures length { length text.new ≡ length text.old }
 {
+    // Of fixed size, as no program here has a heap.
     let mut path = [0u8; NAME_LEN];
     let (name, reading) = match rt.arg(i, &mut path) {
         Ok(n) => (&path[..n], read_opened(open_named(rt, &path[..n]), text)),

@@ -59,7 +59,8 @@ impl TryFrom<u8> for HashType {
     }
 }
 
-// How many bytes a hash of this type has; 0 for a type that isn't defined.
+// How many bytes a hash of this type has; 0 for a type that isn't defined. A hash's type is a number here and in the readers above: any may be handed in, and
+// the call refuses it in its own order.
 pub fn hash_length(hash_type: u8) -> usize
     ensures length { result ≡ hash_length hash_type }
     ensures bound { result ≤ 64 }
@@ -89,6 +90,7 @@ pub fn hash_into(hash_type: u8, message: &[u8], hash: &mut [u8]) -> Result<(), R
 pub fn hash_matches(hash_type: u8, message: &[u8], hash: &[u8]) -> bool
     ensures { result ≡ hash_matches hash_type message.now hash.now }
 {
+    // Of the longest hash's size: memory is fixed here.
     let mut made = [0u8; HashType::LONGEST];
     let Some(made) = made.get_mut(..hash.len()) else {
         return false;

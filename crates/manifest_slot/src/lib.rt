@@ -25,7 +25,7 @@ pub struct Slot {
 }
 
 // A call's verdict, and the next slot: the one handed in where the call refuses. The slot's calls take it by value and answer this, and no `Result` of
-// the next slot, so that a caller has a state to go on with whatever the verdict.
+// the next slot, so that a caller has a state to go on with whatever the verdict: document 01 names this form.
 #[derive(Clone, Copy, Debug, PartialEq, Eq, Hash)]
 pub struct Answer {
     pub verdict: Result<(), Refusal>,

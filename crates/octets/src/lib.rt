@@ -20,6 +20,7 @@ pub trait LittleEndian<const W: usize>: Sized {
     ghost fits: { W < 2 ^ 63 };
 }
 
+// One impl for each integer: the gate takes none that a macro of ours writes.
 impl LittleEndian<2> for u16 {
     ghost number = { λ n. n };
 
@@ -147,6 +148,7 @@ pub fn same(a: &[u8], b: &[u8]) -> bool
     difference == 0
 }
 
+// No `all`: what its closure says of each byte did not come together to the definition.
 pub fn all_zero(b: &[u8]) -> bool
     ensures { result ≡ all_zero b.now }
 {

@@ -23,6 +23,7 @@ fn compress<W: Word<B>, const B: usize>(s: [W; 8], b: &[u8]) -> [W; 8]
 {
     let mut w = [W::default(); 16];
     let mut v = first_sixteen_rounds(s, b, &mut w);
+    // By the group's number: with chunks of the constants, each chunk's place would have to be proved besides.
     for group in 1..W::constants().len() / 16 {
         let u = next_sixteen_rounds(v, 16 * group, &mut w);
         v = u;

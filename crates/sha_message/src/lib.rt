@@ -11,7 +11,7 @@ ghost use Rattle.fips180.specs.Continued.{hash_after};
 use last_blocks::hash_value;
 use sha_words::Word;
 
-// The words of a hash value as bytes, and zeros.
+// The words of a hash value as bytes, and zeros: no array's length is computed from B.
 fn hash_bytes<W: Word<B>, const B: usize>(s: &[W; 8]) -> [u8; 64]
     ensures { take (8 * B) result ≡ word_bytes_of W.family 8 (map W.number s.now) }
 {

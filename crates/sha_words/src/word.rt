@@ -1,4 +1,5 @@
-// What a family of hashes gives: its word, with the operations of FIPS 180-4, 3.2, and its amounts and constants.
+// What a family of hashes gives: its word, with the operations of FIPS 180-4, 3.2, and its amounts and constants. How many bytes a word has is a parameter,
+// and stands beside the word's type in every signature: an array's length can't be a trait's constant.
 ghost use Rattle.std.specs.Prelude.{◌≡◌, ◌<◌, ◌^◌, ◌%◌, ◌*◌, ℕ, [], ◌∷◌, map};
 ghost use Rattle.std.specs.Mem.{type_size};
 ghost use Rattle.std.specs.Int.Bits.{bit_and, bit_xor};

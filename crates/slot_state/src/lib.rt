@@ -20,7 +20,7 @@ pub const BUFFER_LEN: usize = 4096;
 // A header and a signature of one byte.
 pub const SHORTEST: usize = 13;
 
-// The active manifest: length 0 and id 0 where there is none.
+// The active manifest: length 0 and id 0 where there is none. No `Option`: a state that neither is may be handed in, and is refused.
 #[derive(Clone, Copy, Debug, PartialEq, Eq, Hash)]
 pub struct Active {
     pub length: usize,

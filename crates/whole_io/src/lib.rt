@@ -109,7 +109,7 @@ pub fn write_whole<W: Write>(to: &mut W, bytes: &[u8]) -> io::Result<()>
 {
     let len = bytes.len();
     let mut at = START;
-    // As in read_whole.
+    // As in read_whole. One function for both would be lent a buffer here and bytes there, and have two laws.
     while at.done < len {
         match step_after(to.write(&bytes[at.done..]), at, len) {
             ControlFlow::Continue(next) => at = next,
