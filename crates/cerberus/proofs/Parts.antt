@@ -20,7 +20,7 @@ use Rattle.hash.specs.Types.{hash_length}
 use Rattle.regions.specs.Region.{end_is_last}
 use Rattle.signed_image.specs.SignedImage.{hash_of}
 use Rattle.signed_image.specs.SignedImage.{image_head_length, hash_type_of, regions_of, image_number, image_hash, image_regions}
-use Rattle.root_cas.specs.RootCas.{roots_hash, roots_hash_number}
+use Rattle.root_cas.specs.RootCas.{roots_head_length, roots_hash, roots_hash_number}
 use Rattle.root_cas.proofs.Roots.{roots_element, hash_accepted}
 use Rattle.root_cas.proofs.ByNumber.{by_number}
 use Rattle.c_encoding.specs.Roles.{role_of}
@@ -66,8 +66,9 @@ hash t b i e = sym (by_number.hash_shown t b i e).1
 pub part_laws : PartLaws
 part_laws = record { text = text; manifest = manifest; image = image; hash = hash }
 
--- a hash that is told of begins within the element
-pub hash_within : (hash_type : ℕ) (b : List ℕ) (index : ℕ) → roots_hash_number hash_type b index ≡ 0 → (hash_place hash_type index).0 ≤ length b
-hash_within t b i e =
+-- a hash of w bytes that is told of begins within the element
+pub hash_within : (hash_type : ℕ) (b : List ℕ) (index : ℕ) {w : ℕ} → roots_hash_number hash_type b index ≡ 0 → w ≡ hash_length hash_type
+    → roots_head_length + w * index ≤ length b
+hash_within t b i e l =
     let k = hash_accepted t b i e in
-    omega (arith, (roots_element t b k.0).long, mul-le-mul_left (hash_length t) (le_of_lt k.1))
+    omega (arith, ap (λ (n : ℕ). n * i) l, (roots_element t b k.0).long, mul-le-mul_left (hash_length t) (le_of_lt k.1))

@@ -16,6 +16,11 @@ pub read_out_number : (s : State) (buffer : List ℕ) → (read_out_verdict_step
 unfolding read_out_step read_out_verdict_step
 read_out_number s buffer = refl
 
+-- the companion's number, of a state that code made
+pub read_out_told : {n : ℕ} {made : State} (s : State) (buffer : List ℕ) → made ≡ s
+    → n ≡ (read_out_verdict_step made buffer).number → n ≡ (read_out_step s buffer).number
+read_out_told s buffer e n = n ∙ ap (λ (x : State). (read_out_verdict_step x buffer).number) e ∙ read_out_number s buffer
+
 pub read_out_few : (s : State) (buffer : List ℕ) → (read_out_step s buffer).number ≡ 0 → s.count ≤ capacity
 unfolding read_out_step
 read_out_few s buffer e = (check_accepted s buffer e).counts.few

@@ -8,7 +8,7 @@ mod records;
 use report::Report;
 use std::fmt;
 
-fn run<W: fmt::Write>(out: &mut W) -> fmt::Result {
+fn run(out: &mut Report) -> fmt::Result {
     records::run(out)?;
     kept_registers::run(out)
 }

@@ -1,7 +1,7 @@
 // Fresh registers, the first record's bytes, and the 64th and the 65th record.
 use attestation_log::{Log, Pmr};
 use refusal::{Refusal, number_of};
-use report::example;
+use report::Report;
 use std::fmt;
 
 // Document 01's first record, in the layout of document 02, Item 4: PMR0, event type 10, digest all zero. The measurement, SHA-256 of 64 zero bytes, is
@@ -12,18 +12,18 @@ const FIRST: [u8; 89] =
 \x20\x00\x00\x00\
 \xf5\xa5\xfd\x42\xd1\x6a\x20\x30\x27\x98\xef\x6e\xd3\x09\x97\x9b\x43\x00\x3d\x23\x20\xd9\xf0\xe8\xea\x98\x31\xa9\x27\x59\xfb\x4b";
 
-fn fresh_registers<W: fmt::Write>(out: &mut W, log: Log, buffer: &[u8]) -> fmt::Result {
+fn fresh_registers(out: &mut Report, log: Log, buffer: &[u8]) -> fmt::Result {
     for pmr in 0..5 {
         let zeros = log.register(Pmr(pmr), buffer) == Ok([0; 32]);
-        example(out, format_args!("a fresh PMR{pmr} reads as zeros"), zeros)?;
+        out.example(format_args!("a fresh PMR{pmr} reads as zeros"), zeros)?;
     }
     Ok(())
 }
 
-fn first_record<W: fmt::Write>(out: &mut W, log: Log, buffer: &mut [u8]) -> fmt::Result {
+fn first_record(out: &mut Report, log: Log, buffer: &mut [u8]) -> fmt::Result {
     let next = log.record(Pmr(0), 10, [0; 32], buffer).log;
     let as_written = next.read_out(buffer) == FIRST.as_slice();
-    example(out, "the first record's 89 bytes", as_written)
+    out.example("the first record's 89 bytes", as_written)
 }
 
 // What the last of n records answers.
@@ -38,20 +38,15 @@ fn last_of(n: usize, buffer: &mut [u8]) -> Result<(), Refusal> {
     last
 }
 
-pub(crate) fn run<W: fmt::Write>(out: &mut W) -> fmt::Result {
+pub(crate) fn run(out: &mut Report) -> fmt::Result {
     let mut buffer = [0xffu8; Log::BUFFER_LEN];
     let Ok(log) = Log::reset(&mut buffer) else {
-        return example(out, "a reset of 5,696 bytes is accepted", false);
+        return out.example("a reset of 5,696 bytes is accepted", false);
     };
     fresh_registers(out, log, &buffer)?;
     first_record(out, log, &mut buffer)?;
-    example(
-        out,
-        "the 64th record passes",
-        last_of(64, &mut buffer).is_ok(),
-    )?;
-    example(
-        out,
+    out.example("the 64th record passes", last_of(64, &mut buffer).is_ok())?;
+    out.example(
         "the 65th record is 7",
         number_of(&last_of(65, &mut buffer)) == 7,
     )

@@ -53,6 +53,17 @@ impl Report {
         }
     }
 
+    // The line of an example. A report that has failed stays so, and gets no more lines.
+    pub fn example<D: fmt::Display + Drop>(&mut self, text: D, as_written: bool) -> fmt::Result
+        ensures failed { StaysFailed self.old.ok self.new.ok }
+    {
+        if self.ok {
+            example(self, text, as_written)
+        } else {
+            Err(fmt::Error)
+        }
+    }
+
     // What a call on standard output leaves of the report.
     fn outcome(&mut self, call: io::Result<()>) -> fmt::Result
         ensures answer { is_ok result ≡ is_ok call }

@@ -1,6 +1,6 @@
 // Lengths of signed images: 84 bytes with SHA-512 and two regions, and one byte less or more than 44 with SHA-256 and one region.
 use refusal::number_of;
-use report::example;
+use report::Report;
 use signed_image::SignedImage;
 use std::fmt;
 
@@ -41,22 +41,18 @@ fn write_number(buffer: &mut [u8]) -> u8 {
 }
 
 // The number of zeros of each length.
-fn of_lengths<W: fmt::Write, F: Fn(&mut [u8]) -> u8>(
-    out: &mut W,
-    lengths: Lengths,
-    number: F,
-) -> fmt::Result
+fn of_lengths<F: Fn(&mut [u8]) -> u8>(out: &mut Report, lengths: Lengths, number: F) -> fmt::Result
     requires { F.IsAlwaysCallable number }
 {
     for (text, n, expected) in lengths {
         let mut zeros = [0u8; 85];
         let given = number(&mut zeros[..n.min(85)]);
-        example(out, text, given == expected)?;
+        out.example(text, given == expected)?;
     }
     Ok(())
 }
 
-pub(crate) fn run<W: fmt::Write>(out: &mut W) -> fmt::Result {
+pub(crate) fn run(out: &mut Report) -> fmt::Result {
     of_lengths(out, SHA512_READ, |element| read_number(2, 2, element))?;
     of_lengths(out, SHA512_WRITTEN, write_number)?;
     of_lengths(out, SHA256_READ, |element| read_number(0, 1, element))

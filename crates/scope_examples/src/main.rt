@@ -8,7 +8,7 @@ mod slot_examples;
 use report::Report;
 use std::fmt;
 
-fn run<W: fmt::Write>(out: &mut W) -> fmt::Result {
+fn run(out: &mut Report) -> fmt::Result {
     elements_examples::run(out)?;
     slot_examples::run(out)
 }

@@ -1,7 +1,7 @@
 // Totals at the limits, and Get PCD Id after a manifest with id 0x01020304 became active.
 use manifest_slot::Slot;
 use refusal::number_of;
-use report::example;
+use report::Report;
 use std::fmt;
 
 // The manifest type of a PCD (002).
@@ -18,10 +18,10 @@ const TOTALS: [(&str, u64, u8); 4] = [
     ("total 4,097 is 5", 4097, 5),
 ];
 
-fn totals<W: fmt::Write>(out: &mut W, slot: Slot, pending: &[u8], active: &[u8]) -> fmt::Result {
+fn totals(out: &mut Report, slot: Slot, pending: &[u8], active: &[u8]) -> fmt::Result {
     for (text, total, expected) in TOTALS {
         let verdict = slot.prepare(total, pending, active).verdict;
-        example(out, text, number_of(&verdict) == expected)?;
+        out.example(text, number_of(&verdict) == expected)?;
     }
     Ok(())
 }
@@ -33,12 +33,7 @@ fn activated(slot: Slot, pending: &mut [u8], active: &mut [u8]) -> Slot {
     complete.activate(true, pending, active).slot
 }
 
-fn get_pcd_id<W: fmt::Write>(
-    out: &mut W,
-    slot: Slot,
-    pending: &mut [u8],
-    active: &mut [u8],
-) -> fmt::Result {
+fn get_pcd_id(out: &mut Report, slot: Slot, pending: &mut [u8], active: &mut [u8]) -> fmt::Result {
     let mut response = [0xffu8; 12];
     let verdict = commands::command(
         slot,
@@ -49,24 +44,21 @@ fn get_pcd_id<W: fmt::Write>(
         &mut response,
     )
     .verdict;
-    example(
-        out,
+    out.example(
         "Get PCD Id is accepted and writes ten bytes",
         verdict == Ok(10),
     )?;
-    example(
-        out,
+    out.example(
         "with id 0x01020304 active it ends 01 04 03 02 01, and the bytes behind it stay",
         response == *b"\x7e\x14\x14\x00\x62\x01\x04\x03\x02\x01\xff\xff",
     )
 }
 
-pub(crate) fn run<W: fmt::Write>(out: &mut W) -> fmt::Result {
+pub(crate) fn run(out: &mut Report) -> fmt::Result {
     let mut pending = [0xffu8; Slot::BUFFER_LEN];
     let mut active = [0xffu8; Slot::BUFFER_LEN];
     let Ok(slot) = Slot::open(MAGIC, &mut pending, &mut active) else {
-        return example(
-            out,
+        return out.example(
             "an opening with two buffers of 4,096 bytes is accepted",
             false,
         );
