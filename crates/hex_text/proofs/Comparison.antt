@@ -1,9 +1,11 @@
--- `eq` of two iterators of bytes tells whether their lists are the same.
-use Prim.Native.Nat.{ℕ}
+-- A text of another length than two digits a byte differs, and `eq` of two iterators of bytes tells whether their lists are the same.
+use Prim.Native.Nat.{ℕ, ◌*◌}
 use mathlib.Core.Path.{◌≡◌, refl, sym, ap, subst, ◌∙◌}
 use mathlib.Core.Bool.{Bool, true, false, ◌&&◌}
 use mathlib.Core.List.{List, [], ◌∷◌, ◌++◌}
+use native.Mathlib.Omega.{arith}
 use lib.Dec.{eqb}
+use lib.ListN.{length}
 use Rattle.std.specs.Prelude.{Option, None, Some}
 use Rattle.std.specs.Bool.{⊤}
 use Rattle.std.specs.Option.{MatchOption}
@@ -14,7 +16,16 @@ use Rattle.std.proofs.lemmas.Iterator.Consumers.{YieldsList-from_shown}
 use Rattle.std.specs.Array.Iter.{array_steps, array_into_iter_items}
 use Rattle.std.specs.declared.array.IntoIter.{IntoIter}
 use Rattle.octets.specs.Octets.{same_bytes}
+use Rattle.octets.proofs.Buffers.{same_not}
 use Rattle.hex_text.specs.HexText.{byte_text, hex_text}
+
+length_hex : (b : List ℕ) → length (hex_text b) ≡ 2 * length b
+unfolding hex_text byte_text
+length_hex [] = omega arith
+length_hex (x ∷ xs) = omega (arith, length_hex xs)
+
+pub other_length : (b t : List ℕ) → (length t ≡ 2 * length b → ⊥) → same_bytes (hex_text b) t ≡ false
+other_length b t h = same_not (hex_text b) t (λ e. h (sym e ∙ length_hex b))
 
 pub flat_map_is : (b : List ℕ) → flat_map byte_text b ≡ hex_text b
 unfolding hex_text

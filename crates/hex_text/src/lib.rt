@@ -22,15 +22,27 @@ pub fn byte_text(b: u8) -> [u8; 2]
     [digit_text(b / 16), digit_text(b % 16)]
 }
 
-// Whether text is the hexadecimal text of bytes.
+// Whether text is the hexadecimal text of bytes. One of another length isn't read; halving its length can't overflow, as doubling that of bytes could.
+#[tactic(auto, using(crate::proofs::Comparison::other_length))]
 pub fn same(bytes: &[u8], text: &[u8]) -> bool
     ensures { result ≡ same_bytes (hex_text bytes.now) text.now }
 {
+    if text.len() % 2 != 0 || text.len() / 2 != bytes.len() {
+        return false;
+    }
     bytes
         .iter()
         .copied()
         .flat_map(byte_text)
         .eq(text.iter().copied())
+}
+
+// A byte's two digits as text, in the buffer lent: so one write shows both, where "{byte:02x}" makes two if the first is a zero.
+fn byte_str(b: u8, digits: &mut [u8; 2]) -> &str
+    ensures { result.now ≡ byte_text b }
+{
+    *digits = byte_text(b);
+    str::from_utf8(digits).unwrap()
 }
 
 // Shows bytes as their hexadecimal text.
@@ -40,10 +52,11 @@ pub struct Hex<'a>(pub &'a [u8]);
 impl fmt::Display for Hex<'_> {
     ghost output = { λ h. Some (hex_text h.0.now) };
 
-    #[tactic(auto, unfolding(crate::specs::HexText::hex_text))]
+    #[tactic(auto, using(crate::proofs::Shown::byte_more), unfolding(crate::specs::HexText::hex_text))]
     fn fmt<W: fmt::Write>(&self, f: &mut fmt::Formatter<W>) -> fmt::Result {
+        let mut digits = [0; 2];
         for &byte in self.0 {
-            write!(f, "{byte:02x}")?;
+            f.write_str(byte_str(byte, &mut digits))?;
         }
         Ok(())
     }
