@@ -43,6 +43,31 @@ impl Report {
         Report { ok: true, rt }
     }
 
+    // A part, whose bytes need be no UTF-8. None is written after one that couldn't be.
+    pub fn text(&mut self, bytes: &[u8]) -> fmt::Result
+        ensures ok { IsOk result → (self.old.ok ≡ true) × (self.new.ok ≡ true) }
+        ensures outcome { is_ok result ≡ self.new.ok }
+        ensures failed { StaysFailed self.old.ok self.new.ok }
+        ensures nothing { length bytes.now ≡ 0 → self.new.ok ≡ self.old.ok }
+    {
+        if !self.ok {
+            return Err(fmt::Error);
+        }
+        let written = whole_io::write_whole(&mut self.rt.stdout(), bytes);
+        self.outcome(written)
+    }
+
+    // What `write!` and `writeln!` call on a report, before the trait's: that says nothing of a part that fails. A report that has failed stays so.
+    pub fn write_fmt<D: fmt::Display + Drop>(&mut self, value: D) -> fmt::Result
+        ensures failed { StaysFailed self.old.ok self.new.ok }
+        ensures writes { OnOk result (WritesText ⟦<Report as fmt::Write>⟧.write_str_gives self.old (D.output value) self.new) }
+    {
+        match self.ok {
+            true => fmt::Write::write_fmt(self, value),
+            false => Err(fmt::Error),
+        }
+    }
+
     // The report's end. What was written is stored: some file systems tell only then that a write has failed.
     pub fn end(&mut self)
         ensures { StaysFailed self.old.ok self.new.ok }
@@ -87,11 +112,7 @@ impl fmt::Write for Report {
         ensures failed { StaysFailed self.old.ok self.new.ok }
         ensures nothing { length part.now ≡ 0 → self.new.ok ≡ self.old.ok }
     {
-        if !self.ok {
-            return Err(fmt::Error);
-        }
-        let written = whole_io::write_whole(&mut self.rt.stdout(), part.as_bytes());
-        self.outcome(written)
+        self.text(part.as_bytes())
     }
 }
 
