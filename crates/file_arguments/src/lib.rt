@@ -1,7 +1,7 @@
 // The files that a program's arguments name, read into the caller's buffer.
 #![tactic(auto)]
 
-ghost use Rattle.std.specs.Prelude.{◌≡◌, ◌≤◌, length, IfOk, IsErrOf};
+ghost use Rattle.std.specs.Prelude.{◌≡◌, ◌≤◌, length, Err, IfOk, IsErrOf};
 ghost use Rattle.file_arguments.specs.Opened.{NoneUnopened};
 
 use std::env::{Env, FillError};
@@ -29,14 +29,33 @@ fn open_named(rt: &HostRuntime, name: &[u8]) -> io::Result<File> {
     File::open(rt, path)
 }
 
+// What is read of a file that couldn't be opened or read, or that no argument names, once its line is written.
+fn unread(rt: &HostRuntime, name: &[u8], error: io::Error) -> io::Result<usize>
+    ensures { result ≡ Err error }
+{
+    whole_io::write_failure(&mut rt.stderr(), name, &error);
+    Err(error)
+}
+
 // Reads the file, where it was opened.
-fn read_opened<F: Read + Drop>(opened: io::Result<F>, text: &mut [u8]) -> io::Result<usize>
+fn read_opened<F: Read + Drop>(
+    rt: &HostRuntime,
+    opened: io::Result<F>,
+    name: &[u8],
+    text: &mut [u8],
+) -> io::Result<usize>
     ensures unopened { NoneUnopened opened result }
     ensures count { IfOk result (λ n. n ≤ length text.new) }
     ensures length { length text.new ≡ length text.old }
 {
-    let mut file = opened?;
-    whole_io::read_whole(&mut file, text)
+    let mut file = match opened {
+        Ok(file) => file,
+        Err(e) => return unread(rt, name, e),
+    };
+    match whole_io::read_whole(&mut file, text) {
+        Ok(count) => Ok(count),
+        Err(e) => unread(rt, name, e),
+    }
 }
 
 // Reads the file that argument i names, until text is full or the file ends. A failure, at whatever place of the file, gets one line on standard error, which
@@ -47,13 +66,12 @@ pub fn read_argument(rt: &HostRuntime, i: usize, label: &[u8], text: &mut [u8]) 
 {
     // Of fixed size, as no program here has a heap.
     let mut path = [0u8; NAME_LEN];
-    let (name, reading) = match rt.arg(i, &mut path) {
-        Ok(n) => (&path[..n], read_opened(open_named(rt, &path[..n]), text)),
-        Err(FillError::NotPresent) => (label, Err(io::Error::from_raw_os_error(EINVAL))),
-        Err(FillError::TooLong) => (label, Err(io::Error::from_raw_os_error(ENAMETOOLONG))),
-    };
-    if let Err(e) = &reading {
-        whole_io::write_failure(&mut rt.stderr(), name, e);
+    match rt.arg(i, &mut path) {
+        Ok(n) => {
+            let name = &path[..n];
+            read_opened(rt, open_named(rt, name), name, text)
+        }
+        Err(FillError::NotPresent) => unread(rt, label, io::Error::from_raw_os_error(EINVAL)),
+        Err(FillError::TooLong) => unread(rt, label, io::Error::from_raw_os_error(ENAMETOOLONG)),
     }
-    reading
 }
