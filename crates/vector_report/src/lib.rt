@@ -3,11 +3,11 @@
 
 pub mod counting;
 
-ghost use Rattle.std.specs.Prelude.{◌≡◌, true, OnOk, is_ok};
+ghost use Rattle.std.specs.Prelude.{◌≡◌, true, false, OnOk, is_ok};
 ghost use Rattle.std.specs.Fmt.{WritesText};
 ghost use Rattle.report.specs.Report.{StaysFailed};
 ghost use Rattle.vector_report.specs.Counts.{one_more, differing};
-ghost use Rattle.vector_report.specs.Lines.{vector_line, last_line};
+ghost use Rattle.vector_report.specs.Lines.{compared_line, vector_line, last_line};
 
 use hex_text::Hex;
 use std::fmt;
@@ -23,16 +23,16 @@ pub struct Tally<W> {
 }
 
 // A vector's line: whether the computed bytes are the expected ones, or which others they are.
-#[tactic(auto, unfolding(crate::specs::Lines::vector_line))]
+#[tactic(auto, unfolding(crate::specs::Lines::compared_line))]
 fn write_line<W: fmt::Write, D: fmt::Display + Drop>(
     out: &mut W,
     vector: D,
     computed: &[u8],
-    expected: &[u8],
+    is_expected: bool,
 ) -> fmt::Result
-    ensures { OnOk result (WritesText W.write_str_gives out.old (vector_line (D.output vector) computed.now expected.now) out.new) }
+    ensures { OnOk result (WritesText W.write_str_gives out.old (compared_line (D.output vector) computed.now is_expected) out.new) }
 {
-    if hex_text::same(computed, expected) {
+    if is_expected {
         writeln!(out, "{vector}: ok")
     } else {
         writeln!(out, "{vector}: {}", Hex(computed))
@@ -54,7 +54,7 @@ impl<W: fmt::Write> Tally<W> {
     }
 
     // Counts a vector, and writes its line.
-    #[tactic(auto, unfolding(crate::specs::Counts::differing))]
+    #[tactic(auto, unfolding(crate::specs::Counts::differing, crate::specs::Lines::vector_line))]
     pub fn compare<D: fmt::Display + Drop>(
         &mut self,
         vector: D,
@@ -65,19 +65,22 @@ impl<W: fmt::Write> Tally<W> {
         ensures differ { self.new.differ ≡ differing computed.now expected.now self.old.differ }
         ensures failed { StaysFailed self.old.ok self.new.ok }
         ensures ok { self.new.ok ≡ is_ok result }
+        ensures kept { self.old.ok ≡ false → self.new.out ≡ self.old.out }
         ensures written { OnOk result (WritesText W.write_str_gives self.old.out
             (vector_line (D.output vector) computed.now expected.now) self.new.out) }
     {
         self.run = self.run.wrapping_add(1);
-        if !hex_text::same(computed, expected) {
+        let is_expected = hex_text::same(computed, expected);
+        if !is_expected {
             self.differ = self.differ.wrapping_add(1);
         }
-        if !self.ok {
-            return Err(fmt::Error);
+        if self.ok {
+            let written = write_line(&mut self.out, vector, computed, is_expected);
+            self.ok = written.is_ok();
+            written
+        } else {
+            Err(fmt::Error)
         }
-        let written = write_line(&mut self.out, vector, computed, expected);
-        self.ok = written.is_ok();
-        written
     }
 
     // The last line.
@@ -85,6 +88,7 @@ impl<W: fmt::Write> Tally<W> {
         ensures counts { (self.new.run ≡ self.old.run) × (self.new.differ ≡ self.old.differ) }
         ensures failed { StaysFailed self.old.ok self.new.ok }
         ensures ok { self.new.ok ≡ is_ok result }
+        ensures kept { self.old.ok ≡ false → self.new.out ≡ self.old.out }
         ensures written { OnOk result (WritesText W.write_str_gives self.old.out
             (last_line self.old.run self.old.differ) self.new.out) }
     {
