@@ -1,7 +1,7 @@
 // Bytes as hexadecimal text, for programs that compare what they compute with published values.
 #![tactic(auto)]
 
-ghost use Rattle.std.specs.Prelude.{◌≡◌, ◌<◌, Some};
+ghost use Rattle.std.specs.Prelude.{◌≡◌, ◌<◌, ◌≤◌, length, Some};
 ghost use Rattle.octets.specs.Octets.{same_bytes};
 ghost use Rattle.hex_text.specs.HexText.{digit_text, byte_text, hex_text};
 
@@ -37,12 +37,18 @@ pub fn same(bytes: &[u8], text: &[u8]) -> bool
         .eq(text.iter().copied())
 }
 
-// A byte's two digits as text, in the buffer lent: so one write shows both, where "{byte:02x}" makes two if the first is a zero.
-fn byte_str(b: u8, digits: &mut [u8; 2]) -> &str
-    ensures { result.now ≡ byte_text b }
+// The longest run of bytes that one write shows: a digest or a register.
+const RUN: usize = 32;
+
+// The digits of a run as text, in the buffer lent: so one write shows them all, where "{byte:02x}" makes one for each digit or two.
+fn run_text<'a>(run: &[u8], digits: &'a mut [u8; 2 * RUN]) -> &'a str
+    requires { length run.now ≤ 32 }
+    ensures { result.now ≡ hex_text run.now }
 {
-    *digits = byte_text(b);
-    str::from_utf8(digits).unwrap()
+    for (i, &byte) in run.iter().enumerate() {
+        octets::put(digits, 2 * i, &byte_text(byte));
+    }
+    str::from_utf8(&digits[..2 * run.len()]).unwrap()
 }
 
 // Shows bytes as their hexadecimal text.
@@ -52,11 +58,11 @@ pub struct Hex<'a>(pub &'a [u8]);
 impl fmt::Display for Hex<'_> {
     ghost output = { λ h. Some (hex_text h.0.now) };
 
-    #[tactic(auto, using(crate::proofs::Shown::byte_more), unfolding(crate::specs::HexText::hex_text))]
+    #[tactic(auto, unfolding(crate::specs::HexText::hex_text))]
     fn fmt<W: fmt::Write>(&self, f: &mut fmt::Formatter<W>) -> fmt::Result {
-        let mut digits = [0; 2];
-        for &byte in self.0 {
-            f.write_str(byte_str(byte, &mut digits))?;
+        let mut digits = [0; 2 * RUN];
+        for run in self.0.chunks(RUN) {
+            f.write_str(run_text(run, &mut digits))?;
         }
         Ok(())
     }

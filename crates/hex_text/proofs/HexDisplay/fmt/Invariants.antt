@@ -1,8 +1,10 @@
-use Rattle.std.proofs.Common.{take}
+use Rattle.std.proofs.Common.{ℕ, List, ◌≡◌, ◌++◌}
 use Rattle.std.specs.Fmt.{HasWritten, IsPlainFormatter}
 use Rattle.hex_text.specs.HexText.{hex_text}
 use Rattle.hex_text.proofs.HexDisplay.fmt.Given as goal
 
-abbrev pub invariant-loop-byte : goal.invariant-loop-byte
-invariant-loop-byte g l =
-    IsPlainFormatter l.initial.f → HasWritten g.W.Write.write_str_gives l.initial.f (hex_text (take l.byte-index l.byte-items)) l.f
+-- what is written, and the text of the bytes that are left
+abbrev pub invariant-loop-run : goal.invariant-loop-run
+invariant-loop-run g l =
+    IsPlainFormatter l.initial.f
+    → (t : List ℕ) × HasWritten g.W.Write.write_str_gives l.initial.f t l.f × (t ++ hex_text l.run-iterator.rest.now ≡ hex_text l.self.0.now)
