@@ -110,7 +110,10 @@ pub fn put(dst: &mut [u8], at: usize, src: &[u8])
     ensures { dst.new ≡ pasted dst.old at src.now }
 {
     if at <= dst.len() && src.len() <= dst.len() - at {
-        dst[at..at + src.len()].copy_from_slice(src);
+        // No copy_from_slice: of it the library for C would need memmove, and memcpy and memset are all that it may need.
+        for i in 0..src.len() {
+            dst[at + i] = src[i];
+        }
     }
 }
 
