@@ -1,5 +1,5 @@
 -- Document 01, "Numbers that say no": each refusal with its number and its meaning, and the number of an answer.
-use Rattle.std.specs.Prelude.{ℕ, zero, suc, List, [], ◌∷◌, Result, Ok, Err, slice_get}
+use Rattle.std.specs.Prelude.{ℕ, zero, suc, List, [], ◌∷◌, Result, Ok, Err, slice_get, ⊤}
 use Rattle.std.specs.Option.{ok_or}
 use Prim.Native.Char.{code}
 use Prim.Native.String.{String}
@@ -65,6 +65,14 @@ refusals =
 unfoldable pub refusal_of : ℕ → Result Refusal NoRefusal
 refusal_of zero = Err (record { 0 = 0 })
 refusal_of (suc n) = ok_or (slice_get refusals n) (record { 0 = suc n })
+
+-- what a number says of a call: the refusal with this number, if there is one, and that nothing is refused, if there is none
+abbrev pub refused_with : Result Refusal NoRefusal → Result ⊤ Refusal
+refused_with (Ok why) = Err why
+refused_with (Err none) = Ok tt
+
+abbrev pub verdict_of : ℕ → Result ⊤ Refusal
+verdict_of n = refused_with (refusal_of n)
 
 -- ---- meanings, as ASCII bytes
 
