@@ -9,7 +9,7 @@ ghost use Rattle.cerberus.specs.Calls.{manifest_step};
 
 use crate::told::keep;
 use c_encoding::flags::yes;
-use c_encoding::roles::role_of;
+use c_encoding::roles::{role_asked, role_of};
 use c_encoding::slot_numbers::{numbers_of, slot_of};
 use manifest_slot::{Answer, Slot};
 
@@ -86,8 +86,9 @@ pub extern "C" fn cerberus_slot_manifest<'a>(
     ensures { outcome result length.new ≡ length_shown (manifest_step role (held_in (c_slot slot.now pending.now active.now))) length.old }
 {
     let held = slot_of(slot);
+    let lent = held.manifest_verdict(role_of(role), pending, active);
     // The slot's own refusals come before that of a role that there isn't.
-    match held.lent_verdict(pending, active).and(role_of(role)) {
+    match lent.and(role_asked(role)) {
         Ok(role) => {
             *length = held.manifest(role, pending, active).len();
             0
