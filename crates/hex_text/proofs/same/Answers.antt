@@ -1,19 +1,42 @@
-use Rattle.std.proofs.Common.{rules, ◌≡◌, ℕ, List, ◌∙◌, ap}
-use Rattle.std.proofs.lemmas.Iterator.{YieldsList-from_slice}
-use Rattle.std.proofs.lemmas.Iterator.Adapters.{YieldsList-from_flat_map}
-use Rattle.std.proofs.lemmas.Iterator.Consumers.{YieldsList-from_copied, YieldsList-at}
-use Rattle.octets.specs.Octets.{same_bytes}
-use Rattle.hex_text.specs.HexText.{byte_text}
-use Rattle.hex_text.proofs.Comparison.{flat_map_is, same_from_eq, text_yields}
+use Prim.Native.Nat.{◌+◌, ◌*◌}
+use mathlib.Core.Path.{◌≡◌, sym, ◌∙◌}
+use mathlib.Core.Bool.{◌&&◌}
+use native.Mathlib.Omega.{arith}
+use borrow.Author.Tests.{eq-eqb, ne_eqb}
+use lib.Dec.{eqb}
+use lib.ListN.{get_or}
+use Rattle.hex_text.proofs.Comparison.{other_length, same_from, same_step, same_end}
 use Rattle.hex_text.proofs.same.Goals as goal
+
+pub returns-then-text-ne0 : goal.returns-then-text-ne0
+returns-then-text-ne0 c =
+    let a = c.args in
+    sym (other_length a.bytes.now a.text.now (λ e. c.if-text-ne0.true (omega arith)))
+
+pub returns-then-text-bytes : goal.returns-then-text-bytes
+returns-then-text-bytes c =
+    let a = c.args in
+    sym (other_length a.bytes.now a.text.now (λ e. c.if-text-bytes.true (omega arith)))
+
+pub returns-then-digits-text : goal.returns-then-digits-text
+returns-then-digits-text c =
+    let step : let a = c.args in let i = c.loop-i.i in let c = c.byte_text-digits.result in same_from a.bytes.now a.text.now i ≡ (eqb (get_or c 0 0) (get_or a.text.now (2 * i) 0) && (eqb (get_or c 1 0) (get_or a.text.now (2 * i + 1) 0) && same_from a.bytes.now a.text.now (i + 1))) = let a = c.args in
+    same_step a.bytes.now a.text.now c.byte_text-digits.result c.loop-i.i (omega arith) (omega arith) c.byte_text-digits.ensures in
+    sym (sym c.loop-i.invariant ∙ step ∙ rw (ne_eqb _ _ c.if-digits-text.true))
+
+pub returns-then-digits-text-2 : goal.returns-then-digits-text-2
+returns-then-digits-text-2 c =
+    let step : let a = c.args in let i = c.loop-i.i in let c = c.byte_text-digits.result in same_from a.bytes.now a.text.now i ≡ (eqb (get_or c 0 0) (get_or a.text.now (2 * i) 0) && (eqb (get_or c 1 0) (get_or a.text.now (2 * i + 1) 0) && same_from a.bytes.now a.text.now (i + 1))) = let a = c.args in
+    same_step a.bytes.now a.text.now c.byte_text-digits.result c.loop-i.i (omega arith) (omega arith) c.byte_text-digits.ensures in
+    sym (sym c.loop-i.invariant ∙ step ∙ rw (eq-eqb _ _ c.if-digits-text.false, ne_eqb _ _ c.if-digits-text-2.true))
+
+pub loop-i-preserved : goal.loop-i-preserved
+loop-i-preserved c =
+    let step : let a = c.args in let i = c.loop-i.i in let c = c.byte_text-digits.result in same_from a.bytes.now a.text.now i ≡ (eqb (get_or c 0 0) (get_or a.text.now (2 * i) 0) && (eqb (get_or c 1 0) (get_or a.text.now (2 * i + 1) 0) && same_from a.bytes.now a.text.now (i + 1))) = let a = c.args in
+    same_step a.bytes.now a.text.now c.byte_text-digits.result c.loop-i.i (omega arith) (omega arith) c.byte_text-digits.ensures in
+    sym (step ∙ rw (eq-eqb _ _ c.if-digits-text.false, eq-eqb _ _ c.if-digits-text-2.false)) ∙ c.loop-i.invariant
 
 pub returns : goal.returns
 returns c =
-    let f = c.flat_map.ensures in
-    same_from_eq (λ u it. it ≡ u) c.copied-2.result _ c.eq.ensures.ran
-    (YieldsList-from_flat_map _ _ _ _ byte_text _
-    (λ x u q k. let e : u ≡ byte_text x = search (rules, k) in (search rules, λ j b. text_yields j x (b.0 ∙ e)))
-    (YieldsList-at f.source (YieldsList-from_copied (YieldsList-at c.copied.ensures.source (YieldsList-from_slice c.args.bytes.now c.iter.ensures.rest))))
-    f.closure f.front f.back f.done)
-    (λ it e. YieldsList-at e (YieldsList-from_copied (YieldsList-at c.copied-2.ensures.source (YieldsList-from_slice c.args.text.now c.iter-2.ensures.rest))))
-    ∙ ap (λ (t : List ℕ). same_bytes t c.args.text.now) (flat_map_is c.args.bytes.now)
+    let a = c.args in
+    sym (sym c.loop-i.invariant ∙ same_end a.bytes.now a.text.now c.loop-i.i (omega arith) (omega arith))
