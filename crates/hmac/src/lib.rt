@@ -10,7 +10,7 @@ ghost use Rattle.hmac.specs.Hmac.{K₀, ◌⊕◌};
 ghost use Rattle.hmac.specs.HmacSha256.{hmac_reply};
 
 use refusal::Refusal;
-use sha256::{sha256, sha256_after_block};
+use sha256::{TOO_LONG, sha256, sha256_after_block};
 
 const INNER_PAD: u8 = 0x36;
 
@@ -45,6 +45,10 @@ fn padded_with(mut block: [u8; 64], pad: u8) -> [u8; 64]
 pub fn hmac_sha256(key: &[u8], text: &[u8]) -> Result<[u8; 32], Refusal>
     ensures { reply_of result ≡ hmac_reply key.now text.now }
 {
+    // Before the key is hashed, however long that is.
+    if text.len() >= TOO_LONG - 64 {
+        return Err(Refusal::BadLength);
+    }
     let block = key_block(key)?;
     let inner = sha256_after_block(padded_with(block, INNER_PAD), text)?;
     sha256_after_block(padded_with(block, OUTER_PAD), &inner)
