@@ -45,12 +45,12 @@ pub fn same(bytes: &[u8], text: &[u8]) -> bool
     true
 }
 
-// The longest run of bytes that one write shows: a digest or a register.
-const RUN: usize = 32;
+// The longest run of bytes that one write shows: a word of 32 bits.
+const RUN: usize = 4;
 
 // The digits of a run as text, in the buffer lent: so one write shows them all, where "{byte:02x}" makes one for each digit or two.
 fn run_text<'a>(run: &[u8], digits: &'a mut [u8; 2 * RUN]) -> &'a str
-    requires { length run.now ≤ 32 }
+    requires { length run.now ≤ 4 }
     ensures { result.now ≡ hex_text run.now }
 {
     for (i, &byte) in run.iter().enumerate() {
