@@ -45,3 +45,13 @@ module _ (b t d : List ℕ) (i : ℕ) (p : i < length b) (l : length t ≡ 2 * l
       ∙ ap (λ (k : ℕ). get_or t (2 * i) 0 ∷ get_or t (2 * i + 1) 0 ∷ drop k t) third in
       (λ j. same_bytes (hex_text (drop-cons b i 0 p j)) (digits j))
       ∙ (λ j. eqb (get_or (sym e j) 0 0) (get_or t (2 * i) 0) && (eqb (get_or (sym e j) 1 0) (get_or t (2 * i + 1) 0) && same_bytes (hex_text (drop (next j) b)) (drop (2 * (i + 1)) t)))
+
+  pub first_differs : eqb (get_or d 0 0) (get_or t (2 * i) 0) ≡ false → same_from b t i ≡ false
+  first_differs first = same_step ∙ rw first
+
+  pub second_differs : eqb (get_or d 0 0) (get_or t (2 * i) 0) ≡ true → eqb (get_or d 1 0) (get_or t (2 * i + 1) 0) ≡ false → same_from b t i ≡ false
+  second_differs first second = same_step ∙ rw (first, second)
+
+  pub byte_same : eqb (get_or d 0 0) (get_or t (2 * i) 0) ≡ true → eqb (get_or d 1 0) (get_or t (2 * i + 1) 0) ≡ true
+      → same_from b t i ≡ same_from b t (i + 1)
+  byte_same first second = same_step ∙ rw (first, second)

@@ -32,7 +32,7 @@ pub fn same(bytes: &[u8], text: &[u8]) -> bool
     if text.len() / 2 != bytes.len() {
         return false;
     }
-    // Two digits at a time: by `flat_map` and `eq` it takes five times as long.
+    // Two digits at a time: by `flat_map` and `eq` it takes three times as long.
     for (i, &byte) in bytes.iter().enumerate() {
         let digits = byte_text(byte);
         if digits[0] != text[2 * i] {
@@ -48,7 +48,7 @@ pub fn same(bytes: &[u8], text: &[u8]) -> bool
 // The longest run of bytes that one write shows: a word of 32 bits.
 const RUN: usize = 4;
 
-// The digits of a run as text, in the buffer lent: so one write shows them all, where "{byte:02x}" makes one for each digit or two.
+// The digits of a run as text, in the buffer lent: one write shows them all, where "{byte:02x}" makes one or two for each byte.
 fn run_text<'a>(run: &[u8], digits: &'a mut [u8; 2 * RUN]) -> &'a str
     requires { length run.now ≤ 4 }
     ensures { result.now ≡ hex_text run.now }
